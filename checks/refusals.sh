@@ -1,0 +1,61 @@
+#!/usr/bin/env bash
+# What the program itself adds to the proved top call: exit statuses, the one line on standard error and nothing on
+# standard output, for real folders that are absent, empty, unreadable or damaged.
+set -u
+cd "$(dirname "${BASH_SOURCE[0]}")/.." || exit 1
+program=$PWD/crates/deltak/out/deltak
+[ -x "$program" ] || { echo "$program isn't there: run rt ci first"; exit 1; }
+work=$(mktemp -d)
+trap 'rm -rf "$work"' EXIT
+tried=0
+failed=0
+
+# expect NAME STATUS LINE WORDS..: runs the program on the words
+expect() {
+    name=$1 wanted=$2 line=$3
+    shift 3
+    "$program" "$@" >"$work/out" 2>"$work/err" </dev/null
+    got=$?
+    tried=$((tried + 1))
+    if [ "$got" -ne "$wanted" ] || [ "$(cat "$work/err")" != "$line" ] || [ -s "$work/out" ]; then
+        echo "$name: status $got, not $wanted; standard error '$(cat "$work/err")'"
+        failed=$((failed + 1))
+    fi
+}
+
+first=_delta_log/00000000000000000000.json
+mkdir -p "$work/empty" "$work/gap/_delta_log" "$work/bad/_delta_log" "$work/other/_delta_log" "$work/nothing/_delta_log"
+touch "$work/file"
+protocol='{"protocol":{"minReaderVersion":1,"minWriterVersion":2}}'
+metadata='{"metaData":{"id":"t","schemaString":"{}"}}'
+printf '%s\n%s\n' "$protocol" "$metadata" >"$work/gap/$first"
+cp "$work/gap/$first" "$work/gap/_delta_log/00000000000000000002.json"
+printf '%s\n\n%s\n{"add":\n' "$protocol" "$metadata" >"$work/bad/$first"
+printf '%s\n' "$protocol" >"$work/nothing/$first"
+printf '%s\n%s\n' "$protocol" "$metadata" >"$work/other/_delta_log/12.json"
+
+expect 'no folder' 2 'deltak: {"usage":{}}'
+expect 'no command' 2 'deltak: {"usage":{}}' "$work/empty"
+expect 'an unknown command' 2 'deltak: {"usage":{}}' "$work/empty" shew
+expect 'a word too many' 2 'deltak: {"usage":{}}' "$work/empty" show all
+expect 'a folder without a log' 4 "deltak: {\"missing\":{\"path\":\"$first\"}}" "$work/empty" show
+expect 'a folder that is absent' 3 'deltak: {"store":{}}' "$work/absent" show
+expect 'a file in place of the folder' 3 'deltak: {"store":{}}' "$work/file" show
+expect 'a gap between commits' 4 'deltak: {"missing":{"path":"_delta_log/00000000000000000001.json"}}' "$work/gap" show
+expect 'a line that is cut short' 7 "deltak: {\"damaged\":{\"path\":\"$first\",\"place\":4}}" "$work/bad" show
+expect 'no metadata' 7 "deltak: {\"damaged\":{\"path\":\"$first\",\"place\":0}}" "$work/nothing" show
+expect 'a short name is no commit' 4 "deltak: {\"missing\":{\"path\":\"$first\"}}" "$work/other" show
+mkdir "$work/gap/_delta_log/00000000000000000001.json"
+expect 'a folder is no commit' 4 'deltak: {"missing":{"path":"_delta_log/00000000000000000001.json"}}' "$work/gap" show
+
+# a sink that takes nothing more
+"$program" examples/orders show >/dev/full 2>"$work/err"
+got=$?
+tried=$((tried + 1))
+if [ "$got" -ne 10 ] || [ "$(cat "$work/err")" != 'deltak: {"sink":{}}' ]; then
+    echo "a full device: status $got; standard error '$(cat "$work/err")'"
+    failed=$((failed + 1))
+fi
+
+echo "$((tried - failed)) passed, $failed failed"
+[ "$failed" -eq 0 ]

@@ -1,0 +1,13 @@
+#!/usr/bin/env bash
+# Every shell script of the repository parses.
+set -u
+cd "$(dirname "${BASH_SOURCE[0]}")/.." || exit 1
+status=0
+for script in .ci/run deltak checks/*.sh; do
+    case $(head -n 1 "$script") in
+        *bash) shell=bash ;;
+        *) shell=sh ;;
+    esac
+    "$shell" -n "$script" || { echo "$script does not parse"; status=1; }
+done
+exit "$status"

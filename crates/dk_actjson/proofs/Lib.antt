@@ -1,0 +1,9 @@
+mod Turns
+mod LineTurns
+mod Pairs
+mod Keys
+mod Tokens
+mod Rising
+mod LineText
+mod Seen
+mod Slots

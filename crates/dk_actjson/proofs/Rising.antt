@@ -1,0 +1,41 @@
+-- The keys of each table of fields rise.
+use Rattle.std.proofs.Common.{ℕ, List, [], ◌∷◌, Option, nat_cmp, refl}
+use Rattle.std.specs.Cmp.Lexicographic.{slice_cmp}
+use Rattle.std.specs.List.Sorted.{IsStrictlySortedBy}
+use Rattle.serde_json.specs.Data.{Data}
+use Rattle.dk_model.specs.declared.action.Protocol.{Protocol}
+use Rattle.dk_model.specs.declared.action.Metadata.{Metadata}
+use Rattle.dk_model.specs.declared.action.AddFile.{AddFile}
+use Rattle.dk_model.specs.declared.action.RemoveFile.{RemoveFile}
+use Rattle.dk_model.specs.Shown.{Field}
+use Rattle.dk_model.specs.ProtocolObject.{protocol_fields}
+use Rattle.dk_model.specs.MetadataObject.{format_fields, metadata_fields}
+use Rattle.dk_model.specs.AddObject.{add_fields}
+use Rattle.dk_model.specs.RemoveObject.{remove_fields}
+use Rattle.dk_actjson.proofs.Tokens.{keys_of, rising_from_test}
+
+abbrev pub AreRising : List Field → Type 0
+AreRising fs = IsStrictlySortedBy (slice_cmp nat_cmp) (keys_of fs)
+
+pub protocol_rises : (p : Protocol) → AreRising (protocol_fields p)
+unfolding protocol_fields
+protocol_rises p = rising_from_test (keys_of (protocol_fields p)) refl
+
+pub format_rises : (m : Metadata) → AreRising (format_fields m)
+unfolding format_fields
+format_rises m = rising_from_test (keys_of (format_fields m)) refl
+
+pub metadata_rises : (m : Metadata) → AreRising (metadata_fields m)
+unfolding metadata_fields
+metadata_rises m = rising_from_test (keys_of (metadata_fields m)) refl
+
+pub add_rises : (f : AddFile) → AreRising (add_fields f)
+unfolding add_fields
+add_rises f = rising_from_test (keys_of (add_fields f)) refl
+
+pub remove_rises : (r : RemoveFile) → AreRising (remove_fields r)
+unfolding remove_fields
+remove_rises r = rising_from_test (keys_of (remove_fields r)) refl
+
+pub one_rises : (k : List ℕ) (o : Option Data) → AreRising ((k, o) ∷ [])
+one_rises k o = rising_from_test (k ∷ []) refl

@@ -1,0 +1,238 @@
+ghost use Rattle.std.specs.Prelude.{◌≡◌, [], Some, option_map, unwrap_or};
+ghost use Rattle.serde_json.specs.View.{view};
+ghost use Rattle.dk_model.specs.ProtocolObject.{protocol_of};
+ghost use Rattle.dk_model.specs.MetadataObject.{format_of, metadata_of};
+ghost use Rattle.dk_model.specs.AddObject.{add_of};
+ghost use Rattle.dk_model.specs.RemoveObject.{remove_of};
+ghost use Rattle.dk_model.specs.PlainTables.{is_retention_key as is_retention_key_of, has_own_retention as has_own_retention_of, is_plain as is_plain_action};
+ghost use Rattle.dk_model.specs.ActionObject.{one_key, action_under, plain, keyed, action_of as action_in};
+ghost use Rattle.dk_actjson.specs.Faults.{Gives};
+
+use crate::fault::ActionFault;
+use crate::field::{needed, needed_group, optional, optional_group};
+use crate::tree::Tree;
+use dk_model::{Action, ActionKey, AddFile, Metadata, Names, Pairs, Protocol, RemoveFile, Text};
+use serde_json::Value;
+use std::alloc::Global;
+
+#[tactic(auto, unfolding(dk_model::specs::ProtocolObject::protocol_of))]
+fn read_protocol<T: Tree>(alloc: Global, object: &T) -> Result<Protocol, ActionFault>
+    ensures { Gives result (protocol_of (T.meant object.now)) }
+{
+    let min_reader = needed(alloc, object, "minReaderVersion")?;
+    let min_writer = needed(alloc, object, "minWriterVersion")?;
+    let reader_features = optional(alloc, object, "readerFeatures")?;
+    let writer_features = optional(alloc, object, "writerFeatures")?;
+    Ok(Protocol {
+        min_reader,
+        min_writer,
+        reader_features,
+        writer_features,
+    })
+}
+
+#[tactic(auto, unfolding(dk_model::specs::MetadataObject::format_of))]
+fn read_format<T: Tree>(alloc: Global, format: Option<&T>) -> Result<(Text, Pairs), ActionFault>
+    ensures { Gives result (format_of (option_map (λ v. T.meant v.now) format.entry)) }
+{
+    let Some(object) = format else {
+        return Ok((Text::from_str(alloc, "parquet")?, Pairs::empty(alloc)));
+    };
+    let provider = optional(alloc, object, "provider")?;
+    let options = optional(alloc, object, "options")?;
+    let provider = text_or(alloc, provider, "parquet")?;
+    Ok((provider, pairs_or_none(alloc, options)))
+}
+
+fn text_or(alloc: Global, text: Option<Text>, default: &str) -> Result<Text, ActionFault>
+    ensures { Gives result (Some (unwrap_or text default.now)) }
+{
+    match text {
+        Some(text) => Ok(text),
+        None => Ok(Text::from_str(alloc, default)?),
+    }
+}
+
+fn pairs_or_none(alloc: Global, pairs: Option<Pairs>) -> Pairs
+    ensures { result ≡ unwrap_or pairs [] }
+{
+    match pairs {
+        Some(pairs) => pairs,
+        None => Pairs::empty(alloc),
+    }
+}
+
+fn names_or_none(alloc: Global, names: Option<Names>) -> Names
+    ensures { result ≡ unwrap_or names [] }
+{
+    match names {
+        Some(names) => names,
+        None => Names::new(Vec::new(alloc)),
+    }
+}
+
+#[tactic(auto, unfolding(dk_model::specs::MetadataObject::metadata_of))]
+fn read_metadata<T: Tree>(alloc: Global, object: &T) -> Result<Metadata, ActionFault>
+    ensures { Gives result (metadata_of (T.meant object.now)) }
+{
+    let id = needed(alloc, object, "id")?;
+    let name = optional(alloc, object, "name")?;
+    let description = optional(alloc, object, "description")?;
+    let given = optional_group(object, "format")?;
+    let (provider, options) = read_format(alloc, given)?;
+    let schema_string = needed(alloc, object, "schemaString")?;
+    let columns = optional(alloc, object, "partitionColumns")?;
+    let created_time = optional(alloc, object, "createdTime")?;
+    let configuration = optional(alloc, object, "configuration")?;
+    Ok(Metadata {
+        id,
+        name,
+        description,
+        provider,
+        options,
+        schema_string,
+        partition_columns: names_or_none(alloc, columns),
+        created_time,
+        configuration: pairs_or_none(alloc, configuration),
+    })
+}
+
+#[tactic(auto, unfolding(dk_model::specs::AddObject::add_of))]
+fn read_add<T: Tree>(alloc: Global, object: &T) -> Result<AddFile, ActionFault>
+    ensures { Gives result (add_of (T.meant object.now)) }
+{
+    let path = needed(alloc, object, "path")?;
+    let values = optional(alloc, object, "partitionValues")?;
+    let size = needed(alloc, object, "size")?;
+    let modification_time = needed(alloc, object, "modificationTime")?;
+    let change = optional::<bool, T>(alloc, object, "dataChange")?;
+    let stats = optional(alloc, object, "stats")?;
+    let tags = optional(alloc, object, "tags")?;
+    let base_row_id = optional(alloc, object, "baseRowId")?;
+    let default_row_commit_version = optional(alloc, object, "defaultRowCommitVersion")?;
+    let clustering_provider = optional(alloc, object, "clusteringProvider")?;
+    Ok(AddFile {
+        path,
+        partition_values: pairs_or_none(alloc, values),
+        size,
+        modification_time,
+        data_change: change.unwrap_or(true),
+        stats,
+        tags,
+        base_row_id,
+        default_row_commit_version,
+        clustering_provider,
+        vector: object.field("deletionVector").is_some(),
+    })
+}
+
+#[tactic(auto, unfolding(dk_model::specs::RemoveObject::remove_of))]
+fn read_remove<T: Tree>(alloc: Global, object: &T) -> Result<RemoveFile, ActionFault>
+    ensures { Gives result (remove_of (T.meant object.now)) }
+{
+    let path = needed(alloc, object, "path")?;
+    let time = optional::<i64, T>(alloc, object, "deletionTimestamp")?;
+    let changed = optional::<bool, T>(alloc, object, "dataChange")?;
+    Ok(RemoveFile {
+        path,
+        deletion_timestamp: time.unwrap_or(0),
+        data_change: changed.unwrap_or(true),
+    })
+}
+
+/// The one key of these that the object has.
+fn read_key<T: Tree>(object: &T, keys: &[ActionKey]) -> Result<Option<ActionKey>, ActionFault>
+    ensures { Gives result (one_key (T.meant object.now) keys.now) }
+{
+    let mut found = None;
+    'keys: for key in keys {
+        let is_there = object.field(key.name()).is_some();
+        found = match (is_there, found) {
+            (false, found) => found,
+            (true, None) => Some(*key),
+            (true, Some(_)) => return Err(ActionFault::Bad),
+        };
+    }
+    Ok(found)
+}
+
+/// The action under a key. Those of the last arm are not read so far.
+fn read_under<T: Tree>(alloc: Global, key: ActionKey, object: &T) -> Result<Action, ActionFault>
+    ensures { Gives result (action_under key (T.meant object.now)) }
+{
+    match key {
+        ActionKey::Protocol => Ok(Action::Protocol(read_protocol(alloc, object)?)),
+        ActionKey::Metadata => Ok(Action::Metadata(read_metadata(alloc, object)?)),
+        ActionKey::Add => Ok(Action::Add(read_add(alloc, object)?)),
+        ActionKey::Remove => Ok(Action::Remove(read_remove(alloc, object)?)),
+        _ => Err(ActionFault::Bad),
+    }
+}
+
+#[tactic(auto, unfolding(dk_model::specs::PlainTables::is_retention_key))]
+fn is_retention_key(key: &str) -> bool
+    ensures { result ≡ is_retention_key_of key.now }
+{
+    key == "delta.deletedFileRetentionDuration"
+}
+
+fn has_own_retention(metadata: &Metadata) -> bool
+    ensures { result ≡ has_own_retention_of metadata.now }
+{
+    'pairs: for pair in metadata.configuration.as_slice() {
+        if is_retention_key(pair.0.as_str()) {
+            return true;
+        }
+    }
+    false
+}
+
+/// Whether the table is one that is read so far: of reader version 1 or 2, without deletion vectors,
+/// its removed files kept for the default time.
+fn is_plain(action: &Action) -> bool
+    ensures { result ≡ is_plain_action action.now }
+{
+    match action {
+        Action::Protocol(protocol) => protocol.min_reader == 1 || protocol.min_reader == 2,
+        Action::Metadata(metadata) => !has_own_retention(metadata),
+        Action::Add(file) => !file.vector,
+        Action::Remove(_) => true,
+    }
+}
+
+fn read_keyed<T: Tree>(
+    alloc: Global,
+    key: Option<ActionKey>,
+    object: &T,
+) -> Result<Option<Action>, ActionFault>
+    ensures { Gives result (keyed (T.meant object.now) key) }
+{
+    let Some(key) = key else {
+        return Ok(None);
+    };
+    let inner = needed_group(object, key.name())?;
+    let action = read_under(alloc, key, inner)?;
+    if is_plain(&action) {
+        Ok(Some(action))
+    } else {
+        Err(ActionFault::Bad)
+    }
+}
+
+/// The action of a tree, or none where there is nothing to do.
+pub(crate) fn read_action<T: Tree>(alloc: Global, tree: &T) -> Result<Option<Action>, ActionFault>
+    ensures { Gives result (action_in (T.meant tree.now)) }
+{
+    if !tree.is_object() {
+        return Err(ActionFault::Bad);
+    }
+    let key = read_key(tree, ActionKey::all())?;
+    read_keyed(alloc, key, tree)
+}
+
+/// The action of a value, or none where there is nothing to do.
+pub fn action_of(alloc: Global, value: &Value) -> Result<Option<Action>, ActionFault>
+    ensures { Gives result (action_in (view value.now)) }
+{
+    read_action(alloc, value)
+}

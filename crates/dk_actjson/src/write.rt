@@ -1,0 +1,134 @@
+//! The text of actions: one compact line each, with the keys of every object in byte order.
+
+ghost use Rattle.std.specs.Prelude.{◌≡◌, ◌++◌, ◌∷◌, [], IfOk, OnOk, Some, false};
+ghost use Rattle.json.specs.Print.{print};
+ghost use Rattle.dk_model.specs.Written.{line_of, text_of};
+ghost use Rattle.dk_model.specs.ActionObject.{inner_object, key_name};
+ghost use Rattle.dk_actjson.specs.Tokens.{HasTokens, after_field};
+
+use crate::shown::{close_object, open_object};
+use crate::written::{add_member, metadata_member, protocol_member, remove_member};
+use dk_model::{Action, AddFile, Metadata, Protocol};
+use json::Writer;
+use std::alloc::{AllocError, Global};
+use std::mem;
+
+fn action_member(writer: &mut Writer, action: &Action) -> Result<(), AllocError>
+    ensures { OnOk result (HasTokens writer.old (after_field writer.old.tokens
+        (key_name action.now) (Some (inner_object action.now))) writer.new) }
+{
+    match action {
+        Action::Protocol(protocol) => protocol_member(writer, protocol),
+        Action::Metadata(metadata) => metadata_member(writer, metadata),
+        Action::Add(file) => add_member(writer, file),
+        Action::Remove(file) => {
+            let path = file.path.as_str();
+            remove_member(writer, path, file.deletion_timestamp, file.data_change)
+        }
+    }
+}
+
+/// A writer that goes on behind what `out` holds, and takes it.
+fn start_line(alloc: Global, out: &mut Vec<u8>) -> Writer
+    ensures before { result.before ≡ out.old.items }
+    ensures tokens { result.tokens ≡ [] }
+{
+    Writer::new(mem::replace(out, Vec::new(alloc)))
+}
+
+/// Gives `out` what the writer holds, and a newline.
+fn end_line(out: &mut Vec<u8>, writer: Writer) -> Result<(), AllocError>
+    ensures { OnOk result (out.new.items ≡ (writer.before ++ print writer.tokens) ++ 10 ∷ []) }
+{
+    *out = writer.into_inner();
+    out.push(b'\n')?;
+    Ok(())
+}
+
+/// Appends the line of an action to what `out` holds. After an `Err` nothing is said of `out`.
+pub fn append_action(alloc: Global, out: &mut Vec<u8>, action: &Action) -> Result<(), AllocError>
+    ensures { OnOk result (out.new.items ≡ out.old.items ++ line_of action.now) }
+{
+    let mut writer = start_line(alloc, out);
+    open_object(&mut writer)?;
+    action_member(&mut writer, action)?;
+    close_object(&mut writer)?;
+    end_line(out, writer)?;
+    Ok(())
+}
+
+/// Appends the line of a protocol to what `out` holds. After an `Err` nothing is said of `out`.
+pub fn append_protocol(
+    alloc: Global,
+    out: &mut Vec<u8>,
+    protocol: &Protocol,
+) -> Result<(), AllocError>
+    ensures { OnOk result (out.new.items ≡ out.old.items ++ line_of (Action.Protocol protocol.now)) }
+{
+    let mut writer = start_line(alloc, out);
+    open_object(&mut writer)?;
+    protocol_member(&mut writer, protocol)?;
+    close_object(&mut writer)?;
+    end_line(out, writer)?;
+    Ok(())
+}
+
+/// Appends the line of a metaData to what `out` holds. After an `Err` nothing is said of `out`.
+pub fn append_metadata(
+    alloc: Global,
+    out: &mut Vec<u8>,
+    metadata: &Metadata,
+) -> Result<(), AllocError>
+    ensures { OnOk result (out.new.items ≡ out.old.items ++ line_of (Action.Metadata metadata.now)) }
+{
+    let mut writer = start_line(alloc, out);
+    open_object(&mut writer)?;
+    metadata_member(&mut writer, metadata)?;
+    close_object(&mut writer)?;
+    end_line(out, writer)?;
+    Ok(())
+}
+
+/// Appends the line of a file that is added to what `out` holds. After an `Err` nothing is said of
+/// `out`.
+pub fn append_add(alloc: Global, out: &mut Vec<u8>, file: &AddFile) -> Result<(), AllocError>
+    ensures { OnOk result (out.new.items ≡ out.old.items ++ line_of (Action.Add file.now)) }
+{
+    let mut writer = start_line(alloc, out);
+    open_object(&mut writer)?;
+    add_member(&mut writer, file)?;
+    close_object(&mut writer)?;
+    end_line(out, writer)?;
+    Ok(())
+}
+
+/// Appends the line of a tombstone to what `out` holds: a file that was removed at that time, in
+/// milliseconds since 1970-01-01T00:00:00Z, which changes no data. After an `Err` nothing is said of
+/// `out`.
+pub fn append_tombstone(
+    alloc: Global,
+    out: &mut Vec<u8>,
+    path: &str,
+    time: i64,
+) -> Result<(), AllocError>
+    ensures { OnOk result (out.new.items ≡ out.old.items ++ line_of (Action.Remove
+        (record { path = path.now; deletion_timestamp = time; data_change = false }))) }
+{
+    let mut writer = start_line(alloc, out);
+    open_object(&mut writer)?;
+    remove_member(&mut writer, path, time, false)?;
+    close_object(&mut writer)?;
+    end_line(out, writer)?;
+    Ok(())
+}
+
+/// The text of the actions, one compact line each.
+pub fn write_actions(alloc: Global, actions: &[Action]) -> Result<Vec<u8>, AllocError>
+    ensures { IfOk result (λ v. v.items ≡ text_of actions.now) }
+{
+    let mut text = Vec::new(alloc);
+    'actions: for action in actions {
+        append_action(alloc, &mut text, action)?;
+    }
+    Ok(text)
+}

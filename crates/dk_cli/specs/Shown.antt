@@ -1,0 +1,44 @@
+-- The text of `show`: a line for the version, then a line for each action of the state.
+use Rattle.std.specs.Prelude.{ℕ, ℤ, List, [], ◌∷◌, ◌++◌, Bool, false, Some, map, filter, codes, int_lt}
+use Rattle.std.specs.FinMap as maps
+use Rattle.serde_json.specs.Data.{Data, number, unsigned}
+use Rattle.serde_json.specs.Written.{compact_text}
+use Rattle.dk_model.specs.declared.action.Protocol.{Protocol}
+use Rattle.dk_model.specs.declared.action.Metadata.{Metadata}
+use Rattle.dk_model.specs.declared.action.AddFile.{AddFile}
+use Rattle.dk_model.specs.declared.action.Action.{Action}
+use Rattle.dk_model.specs.declared.action.Action.TheVariants as actions
+use Rattle.dk_model.specs.declared.state.TableState.{TableState}
+use Rattle.dk_model.specs.Shown.{object_with}
+use Rattle.dk_model.specs.Written.{line_of, text_of}
+
+-- {"snapshot":{"version":V}}
+unfoldable pub snapshot_data : ℕ → Data
+snapshot_data version = object_with ((codes "snapshot", Some (object_with ((codes "version", Some (number (unsigned version))) ∷ []))) ∷ [])
+
+abbrev pub snapshot_line : ℕ → List ℕ
+snapshot_line version = compact_text (snapshot_data version) ++ 10 ∷ []
+
+-- a file as an action
+abbrev pub live : List ℕ × AddFile → Action
+live file = actions.Add file.1
+
+-- a tombstone that is later than the cut
+abbrev pub is_unexpired : ℤ → List ℕ × ℤ → Bool
+is_unexpired cut tombstone = int_lt cut tombstone.1
+
+-- a tombstone as an action
+abbrev pub removal : List ℕ × ℤ → Action
+removal tombstone = actions.Remove (record { path = tombstone.0; deletion_timestamp = tombstone.1; data_change = false })
+
+-- the lines of the version, its protocol and its metadata
+unfoldable pub head_text : ℕ → Protocol → Metadata → List ℕ
+head_text version protocol metadata = snapshot_line version ++ (line_of (actions.Protocol protocol) ++ line_of (actions.Metadata metadata))
+
+-- the files by path, then the unexpired tombstones by path
+abbrev pub file_actions : TableState → ℤ → List Action
+file_actions state cut = map live (maps.entries state.files) ++ map removal (filter (is_unexpired cut) (maps.entries state.tombstones))
+
+-- the text of a version whose state has this protocol and this metadata
+abbrev pub shown : ℕ → Protocol → Metadata → TableState → ℤ → List ℕ
+shown version protocol metadata state cut = head_text version protocol metadata ++ text_of (file_actions state cut)

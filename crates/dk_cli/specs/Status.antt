@@ -1,0 +1,15 @@
+-- The exit statuses.
+use Rattle.std.specs.Prelude.{ℕ}
+use Rattle.dk_cli.specs.declared.status.Status.{Status}
+use Rattle.dk_cli.specs.declared.status.Status.TheVariants as statuses
+use Rattle.dk_cli.specs.declared.refusal.Refusal.TheVariants as refusals
+
+abbrev pub code_of : Status → ℕ
+code_of statuses.Done = 0
+code_of statuses.Usage = 2
+code_of (statuses.Refused refusals.Store) = 3
+code_of (statuses.Refused (refusals.Missing path)) = 4
+code_of (statuses.Refused (refusals.Damaged path place)) = 7
+code_of (statuses.Refused refusals.OutOfMemory) = 9
+code_of statuses.SinkFault = 10
+code_of statuses.SourceFault = 11

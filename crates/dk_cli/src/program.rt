@@ -1,0 +1,105 @@
+//! The top call.
+ghost use Rattle.std.specs.Prelude.{◌≡◌, ◌≤◌, ◌-◌, ◌↔◌, List, Some, IfSome, IsTrue, length, string_bytes};
+ghost use Rattle.dk_store.specs.Causes.{Rose};
+ghost use Rattle.dk_model.specs.State.{fold};
+ghost use Rattle.dk_model.specs.declared.action.Action.{Action};
+ghost use Rattle.dk_model.specs.declared.action.Protocol.{Protocol};
+ghost use Rattle.dk_model.specs.declared.action.Metadata.{Metadata};
+ghost use Rattle.dk_cli.specs.Show.{show, cut_of};
+ghost use Rattle.dk_cli.specs.Shown.{shown};
+ghost use Rattle.dk_cli.specs.Run.{IsShow, Answers, IsUnwritten};
+ghost use Rattle.dk_cli.specs.History.{IsLog, Shows};
+
+use crate::engine::Engine;
+use crate::refusal::Refusal;
+use crate::show::show_text;
+use crate::status::Status;
+use dk_store::{Failed, Sink, Source, Store, give_all};
+use std::alloc::Global;
+
+/// How long a deleted file is kept, in milliseconds: one week.
+const DELETED_FILE_RETENTION: i64 = 604_800_000;
+
+fn is_word(word: &String, text: &str) -> bool
+    ensures { IsTrue result ↔ (string_bytes word.now ≡ text.now) }
+{
+    word.as_str() == text
+}
+
+fn is_show(words: &[String]) -> bool
+    ensures { IsTrue result ↔ IsShow words.now }
+{
+    words.len() == 1 && is_word(&words[0], "show")
+}
+
+/// The moment up to which tombstones are expired.
+fn cut_at(now: i64) -> i64
+    ensures { result ≡ cut_of now }
+{
+    now.saturating_sub(DELETED_FILE_RETENTION)
+}
+
+/// Makes the whole output of `show`, and then gives it to the sink.
+fn show_command<O: Sink>(alloc: Global, engine: &mut Engine, out: &mut O, now: i64) -> Status
+    ensures usage { result ≡ Status.Usage → ⊥ }
+    ensures source { result ≡ Status.SourceFault → ⊥ }
+    ensures sink { result ≡ Status.SinkFault → Rose (O.sink_faults out.old) (O.sink_faults out.new) }
+    ensures store { result ≡ Status.Refused Refusal.Store → Rose (store_faults engine.old.store) (store_faults engine.new.store) }
+    ensures same { told engine.new.store ≡ told engine.old.store }
+    ensures clashes { clashes engine.new.store ≡ clashes engine.old.store }
+    ensures store_later { store_faults engine.old.store ≤ store_faults engine.new.store }
+    ensures sink_later { O.sink_faults out.old ≤ O.sink_faults out.new }
+    ensures unwritten { IsUnwritten result (O.taken out.old) (O.taken out.new) }
+    ensures answer { IfSome (told engine.old.store) (λ events. Answers (show events (cut_of now)) (O.taken out.old) result (O.taken out.new)) }
+{
+    match show_text(alloc, engine, cut_at(now)) {
+        Err(refusal) => Status::Refused(refusal),
+        Ok(text) => match give_all(out, &text) {
+            Ok(()) => Status::Done,
+            Err(Failed) => Status::SinkFault,
+        },
+    }
+}
+
+/// All that the program does: carries out the command that the words say over the engine, and ends with a status.
+///
+/// `now` is the moment of the call in milliseconds since 1970-01-01T00:00:00Z, and `base` the first of the ids that a
+/// command may draw. The whole output is made first and given to the sink at the end. By now the one command is `show`,
+/// which is the one word of that name.
+///
+/// `whole_log` is the promise in the subject's own words: over a log of commits 0 to n with protocol and metadata the
+/// sink took exactly the text of version n as the fold of all commits gives it. `answer` says the same of every log, and
+/// with it exactly when each refusal comes.
+pub fn run<I: Source, O: Sink>(
+    alloc: Global,
+    words: &[String],
+    engine: &mut Engine,
+    input: &mut I,
+    out: &mut O,
+    now: i64,
+    base: u128,
+) -> Status
+    ensures usage { (result ≡ Status.Usage) ↔ (IsShow words.now → ⊥) }
+    ensures source { result ≡ Status.SourceFault → ⊥ }
+    ensures sink { result ≡ Status.SinkFault → Rose (O.sink_faults out.old) (O.sink_faults out.new) }
+    ensures store { result ≡ Status.Refused Refusal.Store → Rose (store_faults engine.old.store) (store_faults engine.new.store) }
+    ensures answer { IsShow words.now → IfSome (told engine.old.store)
+        (λ events. Answers (show events (cut_of now)) (O.taken out.old) result (O.taken out.new)) }
+    ensures whole_log { IsShow words.now → IfSome (told engine.old.store)
+        (λ events. (log : List (List Action)) (protocol : Protocol) (metadata : Metadata) → IsLog events log
+        → (fold log).protocol ≡ Some protocol → (fold log).metadata ≡ Some metadata
+        → Shows (shown (length log - 1) protocol metadata (fold log) (cut_of now)) (O.taken out.old) result (O.taken out.new)) }
+
+    // What stays as it was, whatever the answer.
+    ensures same { told engine.new.store ≡ told engine.old.store }
+    ensures clashes { clashes engine.new.store ≡ clashes engine.old.store }
+    ensures unread { input.new ≡ input.old }
+    ensures unwritten { IsUnwritten result (O.taken out.old) (O.taken out.new) }
+    ensures store_later { store_faults engine.old.store ≤ store_faults engine.new.store }
+    ensures sink_later { O.sink_faults out.old ≤ O.sink_faults out.new }
+{
+    if !is_show(words) {
+        return Status::Usage;
+    }
+    show_command(alloc, engine, out, now)
+}

@@ -1,0 +1,120 @@
+//! Reading the log of a store: its listing, and its commits from the newest to the oldest.
+ghost use Rattle.std.specs.Prelude.{◌≡◌, ◌≤◌, ◌<◌, ◌^◌, Err, IfOk, IfSome, All, reverse, string_bytes, map, option_map, vec_len, codes, [], IsErrOf};
+ghost use Rattle.dk_store.specs.Objects.{content};
+ghost use Rattle.dk_store.specs.Listing.{listing};
+ghost use Rattle.dk_store.specs.Views.{listed};
+ghost use Rattle.dk_model.specs.CommitText.{reading_of};
+ghost use Rattle.dk_store.specs.Causes.{Rose};
+ghost use Rattle.dk_cli.specs.Answers.{Gives};
+ghost use Rattle.dk_cli.specs.Listed.{Surveys};
+ghost use Rattle.dk_cli.specs.Show.{commit_at, commit_in, commits_below, meant};
+
+use crate::engine::Engine;
+use crate::refusal::Refusal;
+use crate::versions::listed_versions;
+use dk_actjson::read_commit;
+use dk_model::{Commit, LineFault, Text};
+use dk_paths::commit_path;
+use dk_store::{Entry, Store, StoreError};
+use std::alloc::Global;
+
+/// The objects directly in the log's folder.
+fn list_log(engine: &mut Engine) -> Result<Vec<Entry>, StoreError>
+    ensures same { told engine.new.store ≡ told engine.old.store }
+    ensures clashes { clashes engine.new.store ≡ clashes engine.old.store }
+    ensures later { store_faults engine.old.store ≤ store_faults engine.new.store }
+    ensures failed { IsErrOf result StoreError.Failed → Rose (store_faults engine.old.store) (store_faults engine.new.store) }
+    ensures found { IfSome (told engine.old.store) (λ events. IfOk result (λ entries. map listed entries.items ≡ listing events (codes "_delta_log") [])) }
+{
+    engine.store.list("_delta_log", "")
+}
+
+/// The versions that the log's folder lists.
+pub(crate) fn survey(alloc: Global, engine: &mut Engine) -> Result<Vec<u64>, Refusal>
+    ensures same { told engine.new.store ≡ told engine.old.store }
+    ensures clashes { clashes engine.new.store ≡ clashes engine.old.store }
+    ensures later { store_faults engine.old.store ≤ store_faults engine.new.store }
+    ensures store { result ≡ Err Refusal.Store → Rose (store_faults engine.old.store) (store_faults engine.new.store) }
+    ensures found { IfSome (told engine.old.store) (λ events. Surveys events result) }
+    ensures small { IfOk result (λ versions. All (λ version. version < 2 ^ 63) versions.items) }
+{
+    let entries = list_log(engine)?;
+    Ok(listed_versions(alloc, &entries)?)
+}
+
+/// What the bytes of a commit mean.
+fn read_bytes(alloc: Global, path: String, bytes: &[u8]) -> Result<Commit, Refusal>
+    ensures means { Gives (λ commit. commit) result (meant (string_bytes path) (reading_of bytes.now)) }
+    ensures store { result ≡ Err Refusal.Store → ⊥ }
+{
+    match read_commit(alloc, bytes) {
+        Ok(commit) => Ok(commit),
+        Err(LineFault::Bad { line }) => Err(Refusal::Damaged {
+            path: Text::new(path),
+            place: line,
+        }),
+        Err(LineFault::OutOfMemory) => Err(Refusal::OutOfMemory),
+    }
+}
+
+/// What an object means as a commit, if it is there.
+fn read_object(alloc: Global, path: String, object: Option<Vec<u8>>) -> Result<Commit, Refusal>
+    ensures means { Gives (λ commit. commit) result (commit_in (string_bytes path) (option_map (λ bytes. bytes.items) object)) }
+    ensures store { result ≡ Err Refusal.Store → ⊥ }
+{
+    match object {
+        Some(bytes) => read_bytes(alloc, path, &bytes),
+        None => Err(Refusal::Missing {
+            path: Text::new(path),
+        }),
+    }
+}
+
+/// An object of the store.
+fn get_object(engine: &mut Engine, path: &str) -> Result<Option<Vec<u8>>, StoreError>
+    ensures same { told engine.new.store ≡ told engine.old.store }
+    ensures clashes { clashes engine.new.store ≡ clashes engine.old.store }
+    ensures later { store_faults engine.old.store ≤ store_faults engine.new.store }
+    ensures failed { IsErrOf result StoreError.Failed → Rose (store_faults engine.old.store) (store_faults engine.new.store) }
+    ensures found { IfSome (told engine.old.store) (λ events. IfOk result (λ object. option_map (λ bytes. bytes.items) object ≡ content events path.now)) }
+{
+    engine.store.get(path)
+}
+
+/// Reads the commit of a version.
+fn read_version(alloc: Global, engine: &mut Engine, version: u64) -> Result<Commit, Refusal>
+    requires { version < 2 ^ 63 }
+    ensures same { told engine.new.store ≡ told engine.old.store }
+    ensures clashes { clashes engine.new.store ≡ clashes engine.old.store }
+    ensures later { store_faults engine.old.store ≤ store_faults engine.new.store }
+    ensures store { result ≡ Err Refusal.Store → Rose (store_faults engine.old.store) (store_faults engine.new.store) }
+    ensures means { IfSome (told engine.old.store) (λ events. Gives (λ commit. commit) result (commit_at events version)) }
+{
+    let path = commit_path(alloc, version)?;
+    let object = get_object(engine, path.as_str())?;
+    read_object(alloc, path, object)
+}
+
+/// Reads the commits below a version, from the newest to the oldest.
+pub(crate) fn read_below(
+    alloc: Global,
+    engine: &mut Engine,
+    count: u64,
+) -> Result<Vec<Commit>, Refusal>
+    requires { count ≤ 2 ^ 63 }
+    ensures same { told engine.new.store ≡ told engine.old.store }
+    ensures clashes { clashes engine.new.store ≡ clashes engine.old.store }
+    ensures later { store_faults engine.old.store ≤ store_faults engine.new.store }
+    ensures store { result ≡ Err Refusal.Store → Rose (store_faults engine.old.store) (store_faults engine.new.store) }
+    ensures means { IfSome (told engine.old.store) (λ events. Gives (λ found. reverse found.items) result (commits_below events count)) }
+    ensures all { IfOk result (λ found. vec_len found ≡ count) }
+{
+    let mut found = Vec::new(alloc);
+    for version in (0..count).rev() {
+        match read_version(alloc, engine, version) {
+            Ok(commit) => found.push(commit)?,
+            Err(refusal) => return Err(refusal),
+        }
+    }
+    Ok(found)
+}

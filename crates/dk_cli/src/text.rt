@@ -1,0 +1,141 @@
+//! The text of `show`.
+ghost use Rattle.std.specs.Prelude.{◌≡◌, ◌++◌, [], ◌∷◌, Some, Err, IfOk, OnOk, map, filter};
+ghost use Rattle.std.specs.FinMap as maps;
+ghost use Rattle.dk_model.specs.Written.{text_of};
+ghost use Rattle.dk_cli.specs.Answers.{Gives};
+ghost use Rattle.dk_cli.specs.Show.{state_text};
+ghost use Rattle.dk_cli.specs.Shown.{snapshot_line, head_text, file_actions, is_unexpired, live, removal, shown};
+
+use crate::refusal::Refusal;
+use dk_actjson::{append_add, append_metadata, append_protocol, append_tombstone};
+use dk_model::{AddFile, Metadata, Protocol, TableState, Text, TextMap};
+use dk_paths::commit_path;
+use serde_json::{Map, Value};
+use std::alloc::{AllocError, Global};
+
+/// `{"snapshot":{"version":V}}` and a newline.
+#[tactic(auto, unfolding(crate::specs::Shown::snapshot_data, dk_model::specs::Shown::object_with))]
+fn append_snapshot(alloc: Global, out: &mut Vec<u8>, version: u64) -> Result<(), AllocError>
+    ensures { OnOk result (out.new.items ≡ out.old.items ++ snapshot_line version) }
+{
+    let mut snapshot = Map::new(alloc);
+    serde_json::put(&mut snapshot, alloc, "version", Value::from(version))?;
+    let mut line = Map::new(alloc);
+    serde_json::put(&mut line, alloc, "snapshot", Value::from(snapshot))?;
+    out.extend_from_slice(&Value::from(line).to_vec(alloc)?)?;
+    out.push(b'\n')?;
+    Ok(())
+}
+
+/// A line for each file, by path.
+fn append_files(
+    alloc: Global,
+    out: &mut Vec<u8>,
+    files: &TextMap<AddFile>,
+) -> Result<(), AllocError>
+    ensures { OnOk result (out.new.items ≡ out.old.items ++ text_of (map live (maps.entries files.now))) }
+{
+    for (_path, file) in files.iter() {
+        append_add(alloc, out, file)?;
+    }
+    Ok(())
+}
+
+/// A line for the tombstone, if it is later than the cut.
+fn append_unexpired(
+    alloc: Global,
+    out: &mut Vec<u8>,
+    path: &str,
+    time: i64,
+    cut: i64,
+) -> Result<(), AllocError>
+    ensures { OnOk result (out.new.items ≡ out.old.items ++ text_of (map removal (filter (is_unexpired cut) ((path.now, time) ∷ [])))) }
+{
+    if cut < time {
+        append_tombstone(alloc, out, path, time)
+    } else {
+        Ok(())
+    }
+}
+
+/// A line for each tombstone that is later than the cut, by path.
+fn append_tombstones(
+    alloc: Global,
+    out: &mut Vec<u8>,
+    tombstones: &TextMap<i64>,
+    cut: i64,
+) -> Result<(), AllocError>
+    ensures { OnOk result (out.new.items ≡ out.old.items ++ text_of (map removal (filter (is_unexpired cut) (maps.entries tombstones.now)))) }
+{
+    for (path, time) in tombstones.iter() {
+        append_unexpired(alloc, out, path, *time, cut)?;
+    }
+    Ok(())
+}
+
+/// The lines of the version, its protocol and its metadata.
+fn append_head(
+    alloc: Global,
+    out: &mut Vec<u8>,
+    version: u64,
+    protocol: &Protocol,
+    metadata: &Metadata,
+) -> Result<(), AllocError>
+    ensures { OnOk result (out.new.items ≡ out.old.items ++ head_text version protocol.now metadata.now) }
+{
+    append_snapshot(alloc, out, version)?;
+    append_protocol(alloc, out, protocol)?;
+    append_metadata(alloc, out, metadata)?;
+    Ok(())
+}
+
+/// The lines of the files and of the unexpired tombstones.
+fn append_paths(
+    alloc: Global,
+    out: &mut Vec<u8>,
+    state: &TableState,
+    cut: i64,
+) -> Result<(), AllocError>
+    ensures { OnOk result (out.new.items ≡ out.old.items ++ text_of (file_actions state.now cut)) }
+{
+    append_files(alloc, out, &state.files)?;
+    append_tombstones(alloc, out, &state.tombstones, cut)
+}
+
+/// The text of a version whose state has this protocol and this metadata.
+fn text_with(
+    alloc: Global,
+    version: u64,
+    protocol: &Protocol,
+    metadata: &Metadata,
+    state: &TableState,
+    cut: i64,
+) -> Result<Vec<u8>, AllocError>
+    ensures { IfOk result (λ text. text.items ≡ shown version protocol.now metadata.now state.now cut) }
+{
+    let mut out = Vec::new(alloc);
+    append_head(alloc, &mut out, version, protocol, metadata)?;
+    append_paths(alloc, &mut out, state, cut)?;
+    Ok(out)
+}
+
+/// The text of a version by its state.
+pub(crate) fn shown_text(
+    alloc: Global,
+    version: u64,
+    state: &TableState,
+    cut: i64,
+) -> Result<Vec<u8>, Refusal>
+    ensures means { Gives (λ text. text.items) result (state_text version state.now cut) }
+    ensures store { result ≡ Err Refusal.Store → ⊥ }
+{
+    match (&state.protocol, &state.metadata) {
+        (Some(protocol), Some(metadata)) => {
+            Ok(text_with(alloc, version, protocol, metadata, state, cut)?)
+        }
+        _ => Err(Refusal::Damaged {
+            path: Text::new(commit_path(alloc, 0)?),
+            place: 0,
+        }),
+    }
+}

@@ -1,0 +1,245 @@
+//! `show` over stores in memory.
+
+use dk_cli::{Engine, fault_line, run};
+use dk_store::{Call, Fault, How, MemSink, MemSource, MemStore, Store, StoreError};
+use std::alloc::{AllocError, Global};
+use std::process::Abort;
+use std::test::Fail;
+
+/// The moment of all cases. Tombstones up to 9,395,200,000 are expired then.
+const NOW: i64 = 10_000_000_000;
+
+const PROTOCOL: &str = r#"{"protocol":{"minReaderVersion":1,"minWriterVersion":2}}
+"#;
+
+const METADATA: &str =
+    r#"{"metaData":{"configuration":{},"format":{"options":{},"provider":"parquet"},"id":"t","partitionColumns":[],"schemaString":"{}"}}
+"#;
+
+const ADD_A: &str =
+    r#"{"add":{"dataChange":true,"modificationTime":5,"partitionValues":{},"path":"a","size":1}}
+"#;
+
+const LIVE_A: &str =
+    r#"{"add":{"dataChange":false,"modificationTime":5,"partitionValues":{},"path":"a","size":1}}
+"#;
+
+const REMOVE_A: &str = r#"{"remove":{"dataChange":true,"deletionTimestamp":9500000000,"path":"a"}}
+"#;
+
+const GONE_A: &str = r#"{"remove":{"dataChange":false,"deletionTimestamp":9500000000,"path":"a"}}
+"#;
+
+const REMOVE_A_AT_CUT: &str = r#"{"remove":{"path":"a","deletionTimestamp":9395200000}}
+"#;
+
+const SNAPSHOT_0: &str = r#"{"snapshot":{"version":0}}
+"#;
+
+const SNAPSHOT_1: &str = r#"{"snapshot":{"version":1}}
+"#;
+
+const SNAPSHOT_2: &str = r#"{"snapshot":{"version":2}}
+"#;
+
+/// What fails in a case.
+#[derive(Clone, Copy, PartialEq, Eq)]
+enum Fails {
+    Nothing,
+    Sink,
+    Get,
+}
+
+/// A log, the words, what fails, and what is to come: the exit status, the output's lines and the answer object on
+/// standard error.
+struct Case {
+    name: &'static str,
+    commits: &'static [&'static [&'static str]],
+    words: &'static [&'static str],
+    fails: Fails,
+    code: u8,
+    lines: &'static [&'static str],
+    fault: &'static str,
+}
+
+const CASES: [Case; 11] = [
+    Case {
+        name: "an empty store lacks its first commit",
+        commits: &[],
+        words: &["show"],
+        fails: Fails::Nothing,
+        code: 4,
+        lines: &[],
+        fault: r#"{"missing":{"path":"_delta_log/00000000000000000000.json"}}"#,
+    },
+    Case {
+        name: "one commit is shown in its canonical lines",
+        commits: &[&[PROTOCOL, METADATA, ADD_A]],
+        words: &["show"],
+        fails: Fails::Nothing,
+        code: 0,
+        lines: &[SNAPSHOT_0, PROTOCOL, METADATA, LIVE_A],
+        fault: "",
+    },
+    Case {
+        name: "a file added again after its removal is live",
+        commits: &[&[PROTOCOL, METADATA, ADD_A], &[REMOVE_A], &[ADD_A]],
+        words: &["show"],
+        fails: Fails::Nothing,
+        code: 0,
+        lines: &[SNAPSHOT_2, PROTOCOL, METADATA, LIVE_A],
+        fault: "",
+    },
+    Case {
+        name: "a removal later than the cut is shown",
+        commits: &[&[PROTOCOL, METADATA, ADD_A], &[REMOVE_A]],
+        words: &["show"],
+        fails: Fails::Nothing,
+        code: 0,
+        lines: &[SNAPSHOT_1, PROTOCOL, METADATA, GONE_A],
+        fault: "",
+    },
+    Case {
+        name: "a removal at the cut is expired",
+        commits: &[&[PROTOCOL, METADATA, ADD_A], &[REMOVE_A_AT_CUT]],
+        words: &["show"],
+        fails: Fails::Nothing,
+        code: 0,
+        lines: &[SNAPSHOT_1, PROTOCOL, METADATA],
+        fault: "",
+    },
+    Case {
+        name: "a line that is cut short damages its commit at its number",
+        commits: &[&[PROTOCOL, METADATA, ADD_A], &["\n", "{\"add\":"]],
+        words: &["show"],
+        fails: Fails::Nothing,
+        code: 7,
+        lines: &[],
+        fault: r#"{"damaged":{"path":"_delta_log/00000000000000000001.json","place":2}}"#,
+    },
+    Case {
+        name: "a log without metadata is damaged as a whole",
+        commits: &[&[PROTOCOL, ADD_A]],
+        words: &["show"],
+        fails: Fails::Nothing,
+        code: 7,
+        lines: &[],
+        fault: r#"{"damaged":{"path":"_delta_log/00000000000000000000.json","place":0}}"#,
+    },
+    Case {
+        name: "another word is no command",
+        commits: &[&[PROTOCOL, METADATA, ADD_A]],
+        words: &["shew"],
+        fails: Fails::Nothing,
+        code: 2,
+        lines: &[],
+        fault: r#"{"usage":{}}"#,
+    },
+    Case {
+        name: "a word too many is no command",
+        commits: &[&[PROTOCOL, METADATA, ADD_A]],
+        words: &["show", "show"],
+        fails: Fails::Nothing,
+        code: 2,
+        lines: &[],
+        fault: r#"{"usage":{}}"#,
+    },
+    Case {
+        name: "a sink that fails at once takes nothing",
+        commits: &[&[PROTOCOL, METADATA, ADD_A]],
+        words: &["show"],
+        fails: Fails::Sink,
+        code: 10,
+        lines: &[],
+        fault: r#"{"sink":{}}"#,
+    },
+    Case {
+        name: "a commit that can't be read is a fault of the store",
+        commits: &[&[PROTOCOL, METADATA, ADD_A]],
+        words: &["show"],
+        fails: Fails::Get,
+        code: 3,
+        lines: &[],
+        fault: r#"{"store":{}}"#,
+    },
+];
+
+/// Lines one behind the other.
+fn joined(alloc: Global, lines: &[&str]) -> Result<Vec<u8>, AllocError> {
+    let mut text = Vec::new(alloc);
+    for line in lines {
+        text.extend_from_slice(line.as_bytes())?;
+    }
+    Ok(text)
+}
+
+/// A store whose commits have these lines, from version 0 on.
+fn store_of(alloc: Global, commits: &[&[&str]]) -> Result<MemStore, StoreError> {
+    let mut store = MemStore::new(alloc);
+    for (version, lines) in commits.iter().enumerate() {
+        let Ok(path) = format!(in alloc; "_delta_log/{version:020}.json") else {
+            return Err(StoreError::OutOfMemory);
+        };
+        let Ok(text) = joined(alloc, lines) else {
+            return Err(StoreError::OutOfMemory);
+        };
+        let _ = store.put_new(path.as_str(), &text, 0)?;
+    }
+    Ok(store)
+}
+
+fn strings(alloc: Global, words: &[&str]) -> Result<Vec<String>, AllocError> {
+    let mut strings = Vec::new(alloc);
+    for word in words {
+        strings.push(String::from_str(alloc, word)?)?;
+    }
+    Ok(strings)
+}
+
+/// Makes one call of `run` and compares all that it answers.
+fn try_case(
+    rt: &impl Abort,
+    alloc: Global,
+    case: &Case,
+    mut store: MemStore,
+) -> Result<(), AllocError> {
+    let mut sink_fails = Vec::new(alloc);
+    if case.fails == Fails::Sink {
+        sink_fails.push(1)?;
+    }
+    let mut plan = Vec::new(alloc);
+    if case.fails == Fails::Get {
+        plan.push(Fault {
+            call: Call::Get,
+            nth: 1,
+            how: How::Before,
+        })?;
+    }
+    store.plan(plan);
+    let mut engine = Engine {
+        store: Box::new(alloc, store)?,
+    };
+    let mut input = MemSource::new(Vec::new(alloc), Vec::new(alloc));
+    let mut out = MemSink::new(alloc, sink_fails);
+    let words = strings(alloc, case.words)?;
+    let status = run(alloc, &words, &mut engine, &mut input, &mut out, NOW, 0);
+    let name = case.name;
+    assert_eq!(rt; status.code(), case.code, "{name}");
+    let lines = joined(alloc, case.lines)?;
+    assert!(rt; out.taken() == lines.as_slice(), "{name}");
+    let fault = fault_line(alloc, &status)?.unwrap_or(String::new(alloc));
+    assert_eq!(rt; fault.as_str(), case.fault, "{name}");
+    Ok(())
+}
+
+#[test]
+fn show_answers_each_case(rt: HostRuntime) -> Result<(), Fail> {
+    let alloc = rt.alloc();
+    for case in &CASES {
+        let Ok(store) = store_of(alloc, case.commits) else {
+            return Err(Fail::from(AllocError));
+        };
+        try_case(&rt, alloc, case, store)?;
+    }
+    Ok(())
+}

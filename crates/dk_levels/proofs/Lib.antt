@@ -1,0 +1,13 @@
+pub mod Again
+pub mod Begins
+pub mod Cursors
+pub mod Cuts
+pub mod Exact
+pub mod Groups
+pub mod Joins
+pub mod Pending
+pub mod Put
+pub mod Readable
+pub mod Takes
+pub mod Turned
+pub mod Views

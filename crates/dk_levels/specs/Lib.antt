@@ -1,0 +1,6 @@
+pub mod Fronts
+pub mod Laws
+pub mod Places
+pub mod Reading
+pub mod Repeated
+pub mod Solid

@@ -1,0 +1,14 @@
+-- Triples that go to columns from a place on.
+use Rattle.std.specs.Prelude.{◌≡◌, ℕ, List, ◌++◌, Vec}
+use Rattle.std.specs.declared.alloc.Global.{Global}
+use Rattle.dk_pqmodel.specs.Datum.{Column}
+use Rattle.dk_pqmodel.specs.Triples.{joined, empty_columns}
+use Rattle.dk_pqmodel.specs.ColumnView.{columns_of}
+use Rattle.dk_pqmodel.specs.declared.columns.Triple.{Triple}
+
+-- these columns, from that place on
+abbrev pub from : ℕ → List Column → List Column
+from place ts = empty_columns place ++ ts
+
+abbrev pub Adds : ℕ → List (Vec Triple Global) → List (Vec Triple Global) → List Column → Type 0
+Adds place old new ts = columns_of new ≡ joined (columns_of old) (from place ts)

@@ -1,0 +1,48 @@
+//! Columns without a triple.
+
+ghost use Rattle.std.specs.Prelude.{◌≡◌, ◌++◌, OnOk};
+ghost use Rattle.dk_pqmodel.specs.NodeView.{fields_of, shape_of};
+ghost use Rattle.dk_pqmodel.specs.ColumnView.{columns_of};
+ghost use Rattle.dk_pqmodel.specs.Shape.{width_at, width_of};
+ghost use Rattle.dk_pqmodel.specs.Triples.{empty_columns};
+
+use dk_pqmodel::{Node, NodeKind, Triple};
+use std::alloc::{AllocError, Global};
+
+/// Adds an empty column for each leaf of the nodes.
+#[cycle(add)]
+pub fn add_columns(
+    alloc: Global,
+    columns: &mut Vec<Vec<Triple>>,
+    nodes: &[Node],
+) -> Result<(), AllocError>
+    ensures { OnOk result (columns_of columns.new.items ≡ columns_of columns.old.items ++ empty_columns (width_of (fields_of nodes.now))) }
+{
+    for node in nodes {
+        add_kind(alloc, columns, &node.kind)?;
+    }
+    Ok(())
+}
+
+#[cycle(add)]
+fn add_kind(
+    alloc: Global,
+    columns: &mut Vec<Vec<Triple>>,
+    kind: &NodeKind,
+) -> Result<(), AllocError>
+    ensures { OnOk result (columns_of columns.new.items ≡ columns_of columns.old.items ++ empty_columns (width_at (shape_of kind.now))) }
+{
+    match kind {
+        NodeKind::Flag | NodeKind::Int32 | NodeKind::Int64 | NodeKind::Chars => {
+            columns.push(Vec::new(alloc))?;
+            Ok(())
+        }
+        NodeKind::Group(nodes) => add_columns(alloc, columns, nodes),
+        NodeKind::List(node) => add_kind(alloc, columns, &node.kind),
+        NodeKind::Map(node) => {
+            columns.push(Vec::new(alloc))?;
+            add_kind(alloc, columns, &node.kind)?;
+            Ok(())
+        }
+    }
+}

@@ -1,0 +1,19 @@
+//! Rows to columns of triples, and columns back to rows (Dremel's repetition and definition
+//! levels). `shred` gives the triples of rows, and `assemble` gives rows exactly where the columns
+//! are the triples of some rows, and then these.
+#![tactic(auto)]
+
+mod assembly;
+mod empty;
+mod fronts;
+pub mod laws;
+mod levels;
+mod shredding;
+#[cfg(test)]
+mod tests;
+mod to_columns;
+mod to_rows;
+mod width;
+
+pub use assembly::{assemble, assemble_nodes};
+pub use shredding::shred;

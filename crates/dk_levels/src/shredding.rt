@@ -1,0 +1,43 @@
+//! Whole columns from whole rows.
+
+ghost use Rattle.std.specs.Prelude.{◌≡◌, ◌≤◌, length, IfOk, OnOk, ◌<◌};
+ghost use Rattle.dk_pqmodel.specs.NodeView.{fields_of};
+ghost use Rattle.dk_pqmodel.specs.SchemaView.{fields_in};
+ghost use Rattle.dk_pqmodel.specs.RowView.{rows_of};
+ghost use Rattle.dk_pqmodel.specs.ColumnView.{columns_in};
+ghost use Rattle.dk_pqmodel.specs.Shape.{width_of, deepest_of, root};
+ghost use Rattle.dk_pqmodel.specs.Triples.{triples, later_triples};
+ghost use Rattle.dk_pqmodel.specs.Fits.{AreRowsOf};
+ghost use Rattle.dk_levels.specs.Places.{Adds};
+
+use crate::empty::add_columns;
+use crate::levels::TOP;
+use crate::to_columns::put_group;
+use dk_pqmodel::{Columns, Node, Row, Schema, Triple};
+use std::alloc::{AllocError, Global};
+
+/// The triples of the rows, column by column.
+///
+/// Rows that fit the schema have its form. The form alone is needed here: a number at an `Int32`
+/// may be of any size.
+pub fn shred(alloc: Global, schema: &Schema, rows: &[Row]) -> Result<Columns, AllocError>
+    requires { AreRowsOf (fields_in schema.now) (rows_of rows.now) }
+    ensures { IfOk result (λ c. columns_in c ≡ triples (fields_in schema.now) (rows_of rows.now)) }
+{
+    let mut leaves = Vec::new(alloc);
+    add_columns(alloc, &mut leaves, &schema.nodes)?;
+    put_rows(&mut leaves, &schema.nodes, rows)?;
+    Ok(Columns { leaves })
+}
+
+fn put_rows(columns: &mut [Vec<Triple>], nodes: &[Node], rows: &[Row]) -> Result<(), AllocError>
+    requires fits { AreRowsOf (fields_of nodes.now) (rows_of rows.now) }
+    requires room { width_of (fields_of nodes.now) ≤ length columns.old }
+    requires deep { deepest_of (fields_of nodes.now) < 256 }
+    ensures { OnOk result (Adds 0 columns.old columns.new (later_triples (rows_of rows.now) (root (fields_of nodes.now)) 0 0)) }
+{
+    for row in rows {
+        put_group(&row.cells, nodes, columns, 0, TOP)?;
+    }
+    Ok(())
+}

@@ -1,0 +1,4 @@
+pub mod TextMaps
+pub mod Changes
+pub mod WellKept
+pub mod FirstBad

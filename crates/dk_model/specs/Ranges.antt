@@ -1,0 +1,35 @@
+-- The ranges of numbers that actions have.
+use Rattle.std.specs.Prelude.{ℤ, pos, negsuc, ◌^◌, ◌<◌, IfSome}
+use Rattle.dk_model.specs.declared.action.Protocol.{Protocol}
+use Rattle.dk_model.specs.declared.action.Metadata.{Metadata}
+use Rattle.dk_model.specs.declared.action.AddFile.{AddFile}
+use Rattle.dk_model.specs.declared.action.RemoveFile.{RemoveFile}
+use Rattle.dk_model.specs.declared.action.Action.{Action}
+use Rattle.dk_model.specs.declared.action.Action.TheVariants as action
+
+-- a signed number of 64 bits
+abbrev pub IsWhole : ℤ → Type 0
+IsWhole (pos n) = n < 2 ^ 63
+IsWhole (negsuc n) = n < 2 ^ 63
+
+pub record IsProtocolInRange (p : Protocol) : Type 0 where
+  pub reader : p.min_reader < 2 ^ 31
+  pub writer : p.min_writer < 2 ^ 31
+
+pub record IsMetadataInRange (m : Metadata) : Type 0 where
+  pub time : IfSome m.created_time IsWhole
+
+pub record IsAddInRange (f : AddFile) : Type 0 where
+  pub size : IsWhole f.size
+  pub time : IsWhole f.modification_time
+  pub row : IfSome f.base_row_id IsWhole
+  pub version : IfSome f.default_row_commit_version IsWhole
+
+pub record IsRemoveInRange (r : RemoveFile) : Type 0 where
+  pub time : IsWhole r.deletion_timestamp
+
+abbrev pub IsInRange : Action → Type 0
+IsInRange (action.Protocol p) = IsProtocolInRange p
+IsInRange (action.Metadata m) = IsMetadataInRange m
+IsInRange (action.Add f) = IsAddInRange f
+IsInRange (action.Remove r) = IsRemoveInRange r

@@ -1,0 +1,80 @@
+//! The actions of a commit (Delta Lake's PROTOCOL.md, "Actions").
+
+use crate::pairs::Pairs;
+use crate::text::{Names, Text};
+
+/// The versions and features that a reader and a writer of the table must have ("Protocol Evolution").
+#[derive(Debug, Drop)]
+pub struct Protocol {
+    /// The least version of a reader, from 0 to 2,147,483,647.
+    pub min_reader: u32,
+    /// The least version of a writer, from 0 to 2,147,483,647.
+    pub min_writer: u32,
+    /// The features that a reader must have, where the table lists them.
+    pub reader_features: Option<Names>,
+    /// The features that a writer must have, where the table lists them.
+    pub writer_features: Option<Names>,
+}
+
+/// What a table is called, and how its data are laid out ("Change Metadata").
+#[derive(Debug, Drop)]
+pub struct Metadata {
+    /// The table's own identifier.
+    pub id: Text,
+    pub name: Option<Text>,
+    pub description: Option<Text>,
+    /// The provider of the format of data files, mostly `parquet`.
+    pub provider: Text,
+    /// The options of that format.
+    pub options: Pairs,
+    /// The schema, as JSON text.
+    pub schema_string: Text,
+    pub partition_columns: Names,
+    /// When the table was made, in milliseconds since 1970-01-01T00:00:00Z.
+    pub created_time: Option<i64>,
+    /// The settings of the table.
+    pub configuration: Pairs,
+}
+
+/// A data file that is part of the table ("Add File and Remove File").
+#[derive(Debug, Drop)]
+pub struct AddFile {
+    /// Where the file lies, relative to the table's folder.
+    pub path: Text,
+    /// The value of each partition column, or none for null.
+    pub partition_values: Pairs,
+    /// In bytes.
+    pub size: i64,
+    /// In milliseconds since 1970-01-01T00:00:00Z.
+    pub modification_time: i64,
+    /// Whether the file has rows that were not in the table before.
+    pub data_change: bool,
+    /// Statistics of the file's rows, as JSON text.
+    pub stats: Option<Text>,
+    pub tags: Option<Pairs>,
+    pub base_row_id: Option<i64>,
+    pub default_row_commit_version: Option<i64>,
+    pub clustering_provider: Option<Text>,
+    /// Whether a deletion vector stands beside the file.
+    pub vector: bool,
+}
+
+/// A data file that is no longer part of the table ("Add File and Remove File").
+#[derive(Debug, Drop)]
+pub struct RemoveFile {
+    /// Where the file lies, relative to the table's folder.
+    pub path: Text,
+    /// When it was removed, in milliseconds since 1970-01-01T00:00:00Z.
+    pub deletion_timestamp: i64,
+    /// Whether rows left the table with it.
+    pub data_change: bool,
+}
+
+/// One change of a table.
+#[derive(Debug, Drop)]
+pub enum Action {
+    Protocol(Protocol),
+    Metadata(Metadata),
+    Add(AddFile),
+    Remove(RemoveFile),
+}

@@ -1,0 +1,21 @@
+//! Laws of the definitions, for the crates above.
+
+ghost use Rattle.dk_model.specs.Changes.{LastDecides};
+ghost use Rattle.dk_model.specs.CommitText.{FaultIsFirst};
+ghost use Rattle.dk_model.specs.WellKept.{StaysWellKept};
+
+/// Lists of actions whose last protocol, metadata and change of each path are the same lead from every
+/// state to the same state.
+pub fn last_decides()
+    ensures { LastDecides }
+{}
+
+/// What writers of checkpoints need of a state holds of the empty one, and each step keeps it.
+pub fn stays_well_kept()
+    ensures { StaysWellKept }
+{}
+
+/// The number of a fault is that of the first line that means nothing.
+pub fn fault_is_first()
+    ensures { FaultIsFirst }
+{}

@@ -1,0 +1,26 @@
+//! The vocabulary of a Delta table: the actions of a commit, the state that they lead to, and what the
+//! text of a commit means. The layers above read and write these types; `TableState::apply` makes the
+//! steps of a commit.
+#![tactic(auto)]
+
+mod action;
+mod action_key;
+mod commit;
+mod copied;
+mod fault;
+pub mod laws;
+mod pairs;
+mod state;
+#[cfg(test)]
+mod tests;
+mod text;
+mod text_map;
+
+pub use action::{Action, AddFile, Metadata, Protocol, RemoveFile};
+pub use action_key::ActionKey;
+pub use commit::Commit;
+pub use fault::LineFault;
+pub use pairs::Pairs;
+pub use state::TableState;
+pub use text::{Names, Text};
+pub use text_map::{Entries, IntoEntries, TextMap};

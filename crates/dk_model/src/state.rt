@@ -1,0 +1,93 @@
+//! What a table is at a version.
+
+use crate::action::{Action, AddFile, Metadata, Protocol, RemoveFile};
+use crate::commit::Commit;
+use crate::text_map::TextMap;
+use std::alloc::{AllocError, Global};
+
+/// What a table is at a version (Delta Lake's PROTOCOL.md, "Action Reconciliation").
+#[derive(Drop)]
+pub struct TableState {
+    /// The last protocol, where there was one.
+    pub protocol: Option<Protocol>,
+    /// The last metadata, where there was one.
+    pub metadata: Option<Metadata>,
+    /// The files of the table, each under its path.
+    pub files: TextMap<AddFile>,
+    /// The removed files: each path with the time of its removal, in milliseconds since
+    /// 1970-01-01T00:00:00Z.
+    pub tombstones: TextMap<i64>,
+}
+
+impl TableState {
+    ghost use Rattle.std.specs.Prelude.{◌≡◌, OnOk};
+    ghost use Rattle.dk_model.specs.State.{step, steps, empty_state};
+
+    /// The state before all commits.
+    pub fn new(alloc: Global) -> TableState
+        ensures { result ≡ empty_state }
+    {
+        TableState {
+            protocol: None,
+            metadata: None,
+            files: TextMap::new(alloc),
+            tombstones: TextMap::new(alloc),
+        }
+    }
+
+    /// Makes the steps of a commit, in order. After an `Err` the state must not be used further.
+    pub fn apply(&mut self, alloc: Global, commit: &Commit) -> Result<(), AllocError>
+        ensures { OnOk result (self.new ≡ steps self.old commit.now) }
+    {
+        'actions: for action in commit.as_slice() {
+            self.take(alloc, action.copy(alloc)?)?;
+        }
+        Ok(())
+    }
+
+    /// Makes the steps of a commit that is given up, in order, and copies none of its texts but the
+    /// paths. After an `Err` the state must not be used further.
+    pub fn absorb(&mut self, alloc: Global, commit: Commit) -> Result<(), AllocError>
+        ensures { OnOk result (self.new ≡ steps self.old commit) }
+    {
+        'actions: for action in commit.into_vec() {
+            self.take(alloc, action)?;
+        }
+        Ok(())
+    }
+
+    /// Makes the step of one action. After an `Err` the state must not be used further.
+    pub fn take(&mut self, alloc: Global, action: Action) -> Result<(), AllocError>
+        ensures { OnOk result (self.new ≡ step self.old action) }
+    {
+        match action {
+            Action::Protocol(protocol) => {
+                self.protocol = Some(protocol);
+                Ok(())
+            }
+            Action::Metadata(metadata) => {
+                self.metadata = Some(metadata);
+                Ok(())
+            }
+            Action::Add(file) => self.add(alloc, file),
+            Action::Remove(file) => self.remove(alloc, file),
+        }
+    }
+
+    fn add(&mut self, alloc: Global, file: AddFile) -> Result<(), AllocError>
+        ensures { OnOk result (self.new ≡ step self.old (Action.Add file)) }
+    {
+        let mut kept = file;
+        kept.data_change = false;
+        let path = kept.path.copy(alloc)?;
+        self.tombstones.remove(path.as_str());
+        self.files.insert(path, kept)
+    }
+
+    fn remove(&mut self, _alloc: Global, file: RemoveFile) -> Result<(), AllocError>
+        ensures { OnOk result (self.new ≡ step self.old (Action.Remove file)) }
+    {
+        self.files.remove(file.path.as_str());
+        self.tombstones.insert(file.path, file.deletion_timestamp)
+    }
+}

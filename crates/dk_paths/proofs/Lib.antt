@@ -1,0 +1,10 @@
+pub mod Digits
+pub mod Uuids
+pub mod Spelled
+pub mod Meanings
+pub mod Padded
+pub mod StagedNames
+pub mod PlaceLaws
+pub mod IntervalSums
+pub mod NameOrder
+pub mod SidecarNames

@@ -1,0 +1,13 @@
+-- What is read so far is digits, and the value is what they say.
+use Rattle.std.proofs.Common.{◌≡◌, ◌<◌, ◌^◌, take, true}
+use Rattle.std.specs.List.{list_all}
+use Rattle.std.specs.Char.{is_ascii_digit}
+use Rattle.std.specs.Str.Parse.{digits_value}
+use Rattle.dk_paths.proofs.interval.read_number.Given as goal
+
+abbrev pub invariant-loop-byte : goal.invariant-loop-byte
+invariant-loop-byte l = record {
+  digits : list_all is_ascii_digit (take l.byte-index l.word) ≡ true;
+  value : l.value ≡ digits_value 10 (take l.byte-index l.word);
+  small : l.value < 10 ^ l.byte-index;
+}

@@ -1,0 +1,7 @@
+-- What the standard library says of `strip_suffix`, as one equation.
+use Rattle.std.proofs.lemmas.Bool.Decides.{Decides-eqb}
+use Rattle.std.proofs.lemmas.Slice.Eq.{strip_suffix_is}
+use Rattle.dk_paths.proofs.strip.strip_end.Goals as goal
+
+pub returns : goal.returns
+returns c = strip_suffix_is Decides-eqb c.args.text.now c.args.ending.now c.strip_suffix.result c.strip_suffix.ensures.cases

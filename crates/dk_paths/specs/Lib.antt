@@ -1,0 +1,6 @@
+pub mod Numbers
+pub mod Names
+pub mod Staged
+pub mod Places
+pub mod Intervals
+pub mod Order

@@ -1,0 +1,5 @@
+mod Examples
+pub mod Fitting
+mod LaidExamples
+pub mod NodeViews
+mod Testing

@@ -1,0 +1,36 @@
+-- Cells and rows as plain data, and the triples of a column.
+use Rattle.std.specs.Prelude.{ℕ, ℤ, Bool, List, [], ◌∷◌, Option}
+
+-- what a leaf holds
+pub data Value : Type 0 where
+  flag : Bool → Value
+  int : ℤ → Value
+  chars : List ℕ → Value
+
+mutual
+  pub data Datum : Type 0 where
+    null : Datum
+    atom : Value → Datum
+    group : Cells → Datum
+    list : Cells → Datum
+
+  pub data Cells : Type 0 where
+    no_cells : Cells
+    one_cell : Datum → Cells → Cells
+
+-- an entry of a column
+pub record Entry : Type 0 where
+  pub repetition : ℕ
+  pub definition : ℕ
+  pub value : Option Value
+
+abbrev pub Column : Type 0
+Column = List Entry
+
+abbrev pub one_entry : ℕ → ℕ → Option Value → Column
+one_entry r d v = record { repetition = r; definition = d; value = v } ∷ []
+
+-- these cells, and those behind them
+abbrev pub appended : Cells → Cells → Cells
+appended no_cells more = more
+appended (one_cell c cs) more = one_cell c (appended cs more)

@@ -1,0 +1,14 @@
+pub mod ColumnView
+pub mod Datum
+pub mod FileSchema
+pub mod Fits
+pub mod Laid
+pub mod Laws
+pub mod NodeView
+pub mod Object
+pub mod RowView
+pub mod Schema
+pub mod SchemaView
+pub mod Shape
+pub mod Triples
+pub mod Weight

@@ -1,0 +1,10 @@
+pub mod Folders
+pub mod Giving
+pub mod Lookups
+pub mod Maps
+pub mod Named
+pub mod Names
+pub mod Newest
+pub mod Pieces
+pub mod Puts
+pub mod Versions

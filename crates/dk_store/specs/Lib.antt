@@ -1,0 +1,12 @@
+pub mod Causes
+pub mod Journal
+pub mod Listing
+pub mod Memory
+pub mod Objects
+pub mod Settled
+pub mod Standings
+pub mod Stream
+pub mod Streams
+pub mod Told
+pub mod Views
+pub mod Writing
