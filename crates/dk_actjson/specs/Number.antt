@@ -1,5 +1,4 @@
 -- The number that the digits of a JSON text stand for.
-use Rattle.std.specs.Prelude.{Bool, true}
 use Rattle.serde_json.specs.Data.{Num, unsigned, negative, float}
 use Rattle.dk_actjson.specs.declared.number.Number.{Number}
 use Rattle.dk_actjson.specs.declared.number.Number.TheVariants as number

@@ -1,5 +1,5 @@
 -- The data that a JSON value is read as, over the grammar of `json`. A number out of range has none, and `has_values` tells.
-use Rattle.std.specs.Prelude.{ℕ, List, Bool, true, ◌&&◌, Option, Some, None, is_some}
+use Rattle.std.specs.Prelude.{Bool, true, ◌&&◌, Option, Some, None, is_some}
 use Rattle.json.specs.Json as json
 use Rattle.serde_json.specs.Data.{Num, unsigned, Data, null, boolean, number, string, array, object, Items, no_items, item, Members, no_members, put}
 use Rattle.serde_json.specs.Read.{number_of}

@@ -53,7 +53,7 @@ fn read_line(
 fn newline(bytes: &[u8]) -> Option<usize>
     ensures { result ≡ position (λ b. b == 10) bytes.now }
 {
-    bytes.iter().position(|b| *b == b'\n')
+    memchr::memchr(b'\n', bytes)
 }
 
 /// The first line, and what stands behind its newline.
@@ -90,5 +90,7 @@ pub fn read_commit(alloc: Global, bytes: &[u8]) -> Result<Commit, LineFault>
         }
         rest = after;
     }
+    // Most commits are small, and a list grows to four actions at once.
+    actions.shrink_to_fit();
     Ok(Commit::new(actions))
 }

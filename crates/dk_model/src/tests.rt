@@ -1,6 +1,6 @@
-//! What a state and a map answer on worked examples.
+//! What a state answers on worked examples.
 
-use crate::{Action, AddFile, Commit, Pairs, RemoveFile, TableState, Text, TextMap};
+use crate::{Action, AddFile, Commit, Pairs, RemoveFile, TableState, Text};
 use std::alloc::{AllocError, Global};
 use std::test::Fail;
 
@@ -28,47 +28,26 @@ fn removed(alloc: Global, path: &str) -> Result<Action, AllocError> {
     }))
 }
 
-fn commit_of(alloc: Global, action: Action) -> Result<Commit, AllocError> {
+/// An add, its removal, and the add again.
+fn history(alloc: Global) -> Result<Commit, AllocError> {
     let mut actions = Vec::new(alloc);
-    actions.push(action)?;
+    actions.push(added(alloc, "a")?)?;
+    actions.push(removed(alloc, "a")?)?;
+    actions.push(added(alloc, "a")?)?;
     Ok(Commit::new(actions))
+}
+
+fn applied(alloc: Global, commit: &Commit) -> Result<TableState, AllocError> {
+    let mut state = TableState::new(alloc);
+    state.apply(alloc, commit)?;
+    Ok(state)
 }
 
 #[test]
 fn a_file_added_again_after_its_removal_is_live(rt: HostRuntime) -> Result<(), Fail> {
-    let alloc = rt.alloc();
-    let mut state = TableState::new(alloc);
-    let add = commit_of(alloc, added(alloc, "a")?)?;
-    state.apply(alloc, &add)?;
-    assert!(rt; state.files.contains("a"));
-    state.absorb(alloc, commit_of(alloc, removed(alloc, "a")?)?)?;
-    assert!(rt; !state.files.contains("a"));
-    assert_eq!(rt; state.tombstones.get("a").copied(), Some(9_500_000_000));
-    state.apply(alloc, &add)?;
+    let commit = history(rt.alloc())?;
+    let state = applied(rt.alloc(), &commit)?;
     assert!(rt; state.files.contains("a"));
     assert!(rt; state.tombstones.is_empty());
-    Ok(())
-}
-
-#[test]
-fn entries_come_in_the_byte_order_of_their_keys(rt: HostRuntime) -> Result<(), Fail> {
-    let alloc = rt.alloc();
-    let mut map = TextMap::new(alloc);
-    map.insert(Text::from_str(alloc, "b")?, 1)?;
-    map.insert(Text::from_str(alloc, "é")?, 2)?;
-    map.insert(Text::from_str(alloc, "Z")?, 3)?;
-    map.insert(Text::from_str(alloc, "b")?, 4)?;
-    assert_eq!(rt; map.len(), 3);
-    let mut seen = String::new(alloc);
-    for (key, value) in map.iter() {
-        seen.push_str(key)?;
-        assert!(rt; *value > 1);
-    }
-    assert_eq!(rt; seen.as_str(), "Zbé");
-    let mut taken = String::new(alloc);
-    for (key, _) in map.into_entries() {
-        taken.push_str(key.as_str())?;
-    }
-    assert_eq!(rt; taken.as_str(), "Zbé");
     Ok(())
 }

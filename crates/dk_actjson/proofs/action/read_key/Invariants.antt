@@ -1,5 +1,4 @@
 use Rattle.std.proofs.Common.{◌≡◌, drop}
-use Rattle.serde_json.specs.View.{view}
 use Rattle.dk_model.specs.ActionObject.{one_key}
 use Rattle.dk_actjson.proofs.Keys.{with_key}
 use Rattle.dk_actjson.proofs.action.read_key.Given as goal

@@ -1,8 +1,8 @@
-use Rattle.std.proofs.Common.{rules, ◌≡◌, ℕ, List, [], ◌∷◌, ◌++◌, map, Option, Some, nat_cmp, sym, ap, subst, ◌∙◌, append-nil}
+use Rattle.std.proofs.Common.{rules, ◌≡◌, ℕ, List, [], ◌∷◌, ◌++◌, map, Some, nat_cmp, sym, ap, subst, ◌∙◌, append-nil}
 use Rattle.std.specs.Cmp.Lexicographic.{slice_cmp}
 use Rattle.std.specs.List.Sorted.{IsStrictlySortedBy}
 use Rattle.std.specs.FinMap.{entries}
-use Rattle.dk_actjson.specs.Slots.{Slot, all_slots}
+use Rattle.dk_actjson.specs.Slots.{all_slots}
 use Rattle.dk_actjson.proofs.Turns.{before, before-none}
 use Rattle.dk_actjson.proofs.Slots.{rising_slots, slot_turn, keys_turn}
 use Rattle.dk_actjson.proofs.borrowed.pairs_of_slots.Goals as goal

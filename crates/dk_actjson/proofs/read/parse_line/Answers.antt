@@ -1,4 +1,4 @@
-use Rattle.std.proofs.Common.{◌≡◌, ap, subst, sym, ◌∙◌}
+use Rattle.std.proofs.Common.{ap, subst, sym, ◌∙◌}
 use Rattle.json.specs.Value.{value_view}
 use Rattle.serde_json.specs.Read.{read}
 use Rattle.dk_actjson.specs.Faults.{GivesBy}
