@@ -1,3 +1,5 @@
+//! The action that a JSON value of an action means.
+
 ghost use Rattle.std.specs.Prelude.{◌≡◌, [], Some, option_map, unwrap_or};
 ghost use Rattle.serde_json.specs.View.{view};
 ghost use Rattle.dk_model.specs.ProtocolObject.{protocol_of};

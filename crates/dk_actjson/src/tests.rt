@@ -1,7 +1,8 @@
 //! Texts that are read and written as worked examples say.
 
 use crate::*;
-use dk_model::{LineFault, TableState};
+use dk_model::{Action, LineFault, TableState};
+use serde_json::Value;
 use std::test::Fail;
 
 const TABLE: &[u8] =
@@ -38,6 +39,19 @@ fn unknown_fields_and_nulls_are_passed_over(rt: HostRuntime) -> Result<(), Fail>
         written.as_slice(),
         "{\"add\":{\"dataChange\":true,\"modificationTime\":7,\"partitionValues\":{\"a\":\"2\",\"z\":null},\"path\":\"pé\",\"size\":262,\"stats\":\"{}\"}}\n".as_bytes()
     );
+    Ok(())
+}
+
+#[test]
+fn a_value_is_read_as_its_action(rt: HostRuntime) -> Result<(), Fail> {
+    let text = "{\"remove\":{\"deletionTimestamp\":7,\"path\":\"a\"}}";
+    let value = Value::from_str(rt.alloc(), text)?;
+    let Ok(Some(Action::Remove(file))) = action_of(rt.alloc(), &value) else {
+        assert!(rt; false);
+        return Ok(());
+    };
+    assert_eq!(rt; file.path.as_str(), "a");
+    assert_eq!(rt; file.deletion_timestamp, 7);
     Ok(())
 }
 

@@ -1,32 +1,15 @@
 //! The text of actions: one compact line each, with the keys of every object in byte order.
 
-ghost use Rattle.std.specs.Prelude.{◌≡◌, ◌++◌, ◌∷◌, [], IfOk, OnOk, Some, false};
+ghost use Rattle.std.specs.Prelude.{◌≡◌, ◌++◌, ◌∷◌, [], IfOk, OnOk, false};
 ghost use Rattle.json.specs.Print.{print};
 ghost use Rattle.dk_model.specs.Written.{line_of, text_of};
-ghost use Rattle.dk_model.specs.ActionObject.{inner_object, key_name};
-ghost use Rattle.dk_actjson.specs.Tokens.{HasTokens, after_field};
 
 use crate::shown::{close_object, open_object};
 use crate::written::{add_member, metadata_member, protocol_member, remove_member};
-use dk_model::{Action, AddFile, Metadata, Protocol};
+use dk_model::{Action, AddFile, Metadata, Protocol, RemoveFile};
 use json::Writer;
 use std::alloc::{AllocError, Global};
 use std::mem;
-
-fn action_member(writer: &mut Writer, action: &Action) -> Result<(), AllocError>
-    ensures { OnOk result (HasTokens writer.old (after_field writer.old.tokens
-        (key_name action.now) (Some (inner_object action.now))) writer.new) }
-{
-    match action {
-        Action::Protocol(protocol) => protocol_member(writer, protocol),
-        Action::Metadata(metadata) => metadata_member(writer, metadata),
-        Action::Add(file) => add_member(writer, file),
-        Action::Remove(file) => {
-            let path = file.path.as_str();
-            remove_member(writer, path, file.deletion_timestamp, file.data_change)
-        }
-    }
-}
 
 /// A writer that goes on behind what `out` holds, and takes it.
 fn start_line(alloc: Global, out: &mut Vec<u8>) -> Writer
@@ -49,12 +32,12 @@ fn end_line(out: &mut Vec<u8>, writer: Writer) -> Result<(), AllocError>
 pub fn append_action(alloc: Global, out: &mut Vec<u8>, action: &Action) -> Result<(), AllocError>
     ensures { OnOk result (out.new.items ≡ out.old.items ++ line_of action.now) }
 {
-    let mut writer = start_line(alloc, out);
-    open_object(&mut writer)?;
-    action_member(&mut writer, action)?;
-    close_object(&mut writer)?;
-    end_line(out, writer)?;
-    Ok(())
+    match action {
+        Action::Protocol(protocol) => append_protocol(alloc, out, protocol),
+        Action::Metadata(metadata) => append_metadata(alloc, out, metadata),
+        Action::Add(file) => append_add(alloc, out, file),
+        Action::Remove(file) => append_remove(alloc, out, file),
+    }
 }
 
 /// Appends the line of a protocol to what `out` holds. After an `Err` nothing is said of `out`.
@@ -102,6 +85,15 @@ pub fn append_add(alloc: Global, out: &mut Vec<u8>, file: &AddFile) -> Result<()
     Ok(())
 }
 
+/// Appends the line of a file that is removed to what `out` holds. After an `Err` nothing is said
+/// of `out`.
+pub fn append_remove(alloc: Global, out: &mut Vec<u8>, file: &RemoveFile) -> Result<(), AllocError>
+    ensures { OnOk result (out.new.items ≡ out.old.items ++ line_of (Action.Remove file.now)) }
+{
+    let path = file.path.as_str();
+    append_removal(alloc, out, path, file.deletion_timestamp, file.data_change)
+}
+
 /// Appends the line of a tombstone to what `out` holds: a file that was removed at that time, in
 /// milliseconds since 1970-01-01T00:00:00Z, which changes no data. After an `Err` nothing is said of
 /// `out`.
@@ -114,9 +106,22 @@ pub fn append_tombstone(
     ensures { OnOk result (out.new.items ≡ out.old.items ++ line_of (Action.Remove
         (record { path = path.now; deletion_timestamp = time; data_change = false }))) }
 {
+    append_removal(alloc, out, path, time, false)
+}
+
+fn append_removal(
+    alloc: Global,
+    out: &mut Vec<u8>,
+    path: &str,
+    time: i64,
+    data_change: bool,
+) -> Result<(), AllocError>
+    ensures { OnOk result (out.new.items ≡ out.old.items ++ line_of (Action.Remove
+        (record { path = path.now; deletion_timestamp = time; data_change = data_change }))) }
+{
     let mut writer = start_line(alloc, out);
     open_object(&mut writer)?;
-    remove_member(&mut writer, path, time, false)?;
+    remove_member(&mut writer, path, time, data_change)?;
     close_object(&mut writer)?;
     end_line(out, writer)?;
     Ok(())

@@ -70,7 +70,7 @@ impl TableState {
                 Ok(())
             }
             Action::Add(file) => self.add(alloc, file),
-            Action::Remove(file) => self.remove(alloc, file),
+            Action::Remove(file) => self.remove(file),
         }
     }
 
@@ -84,7 +84,7 @@ impl TableState {
         self.files.insert(path, kept)
     }
 
-    fn remove(&mut self, _alloc: Global, file: RemoveFile) -> Result<(), AllocError>
+    fn remove(&mut self, file: RemoveFile) -> Result<(), AllocError>
         ensures { OnOk result (self.new ≡ step self.old (Action.Remove file)) }
     {
         self.files.remove(file.path.as_str());

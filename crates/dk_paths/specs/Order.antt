@@ -1,4 +1,4 @@
--- IsNameOf of the log stand in byte order as their versions do.
+-- Names of the log stand in byte order as their versions do.
 use Rattle.std.specs.Prelude.{◌≡◌, ℕ, ◌^◌, ◌<◌, List, ◌++◌}
 use Rattle.std.specs.Ordering.{nat_cmp, ordering_then}
 use Rattle.std.specs.Cmp.Lexicographic.{slice_cmp}
