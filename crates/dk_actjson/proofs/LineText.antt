@@ -7,7 +7,8 @@ use Rattle.serde_json.specs.Data.{Data}
 use Rattle.serde_json.specs.Written.{compact_text}
 use Rattle.serde_json.proofs.Texts.{print-outline}
 use Rattle.dk_model.specs.declared.action.Action.{Action}
-use Rattle.dk_model.specs.ActionObject.{object_of, key_name, inner_object}
+use Rattle.dk_model.specs.Shown.{object_with}
+use Rattle.dk_model.specs.ActionObject.{key_name, inner_object}
 use Rattle.dk_model.specs.Written.{line_of}
 use Rattle.dk_actjson.specs.Tokens.{HasTokens, tokens_of, after_field}
 use Rattle.dk_actjson.proofs.Tokens.{closed_object}
@@ -21,9 +22,15 @@ line_text out d w0 w items before none has is =
     ∙ ap (λ s. (out ++ s) ++ 10 ∷ []) (print-outline d)
     ∙ append_assoc out (compact_text d) (10 ∷ [])
 
--- an object whose one member is an action becomes its line
+-- an object with one member becomes a line
+pub object_line : (out k : List ℕ) (d : Data) (w0 w1 w2 w3 : Written) (items : List ℕ) → w0.before ≡ out → w0.tokens ≡ []
+    → HasTokens w0 (w0.tokens ++ begin_object ∷ []) w1 → HasTokens w1 (after_field w1.tokens k (Some d)) w2
+    → HasTokens w2 (w2.tokens ++ end_object ∷ []) w3 → items ≡ (w3.before ++ print w3.tokens) ++ 10 ∷ [] → items ≡ out ++ (compact_text (object_with ((k, Some d) ∷ [])) ++ 10 ∷ [])
+object_line out k d w0 w1 w2 w3 items before none opens member closes is =
+    line_text out _ w0 w3 items before none (closed_object w0 w1 w2 w3 _ (one_rises k (Some d)) opens member closes) is
+
+-- and that of an action its line
 pub action_line : (out : List ℕ) (a : Action) (w0 w1 w2 w3 : Written) (items : List ℕ) → w0.before ≡ out → w0.tokens ≡ []
     → HasTokens w0 (w0.tokens ++ begin_object ∷ []) w1 → HasTokens w1 (after_field w1.tokens (key_name a) (Some (inner_object a))) w2
     → HasTokens w2 (w2.tokens ++ end_object ∷ []) w3 → items ≡ (w3.before ++ print w3.tokens) ++ 10 ∷ [] → items ≡ out ++ line_of a
-action_line out a w0 w1 w2 w3 items before none opens member closes is =
-    line_text out (object_of a) w0 w3 items before none (closed_object w0 w1 w2 w3 _ (one_rises (key_name a) (Some (inner_object a))) opens member closes) is
+action_line out a w0 w1 w2 w3 items before none opens member closes is = object_line out (key_name a) (inner_object a) w0 w1 w2 w3 items before none opens member closes is

@@ -1,5 +1,5 @@
 -- The keys of each table of fields rise.
-use Rattle.std.proofs.Common.{ℕ, List, [], ◌∷◌, Option, nat_cmp, refl}
+use Rattle.std.proofs.Common.{ℕ, ℤ, List, [], ◌∷◌, Option, nat_cmp, refl}
 use Rattle.std.specs.Cmp.Lexicographic.{slice_cmp}
 use Rattle.std.specs.List.Sorted.{IsStrictlySortedBy}
 use Rattle.serde_json.specs.Data.{Data}
@@ -12,6 +12,7 @@ use Rattle.dk_model.specs.ProtocolObject.{protocol_fields}
 use Rattle.dk_model.specs.MetadataObject.{format_fields, metadata_fields}
 use Rattle.dk_model.specs.AddObject.{add_fields}
 use Rattle.dk_model.specs.RemoveObject.{remove_fields}
+use Rattle.dk_model.specs.InfoObject.{own_info_fields}
 use Rattle.dk_actjson.proofs.Tokens.{keys_of, rising_from_test}
 
 abbrev pub AreRising : List Field → Type 0
@@ -36,6 +37,10 @@ add_rises f = rising_from_test (keys_of (add_fields f)) refl
 pub remove_rises : (r : RemoveFile) → AreRising (remove_fields r)
 unfolding remove_fields
 remove_rises r = rising_from_test (keys_of (remove_fields r)) refl
+
+pub own_info_rises : (txn_id : List ℕ) (timestamp : ℤ) → AreRising (own_info_fields txn_id timestamp)
+unfolding own_info_fields
+own_info_rises txn_id timestamp = rising_from_test (keys_of (own_info_fields txn_id timestamp)) refl
 
 pub one_rises : (k : List ℕ) (o : Option Data) → AreRising ((k, o) ∷ [])
 one_rises k o = rising_from_test (k ∷ []) refl

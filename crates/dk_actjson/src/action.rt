@@ -6,14 +6,15 @@ ghost use Rattle.dk_model.specs.ProtocolObject.{protocol_of};
 ghost use Rattle.dk_model.specs.MetadataObject.{format_of, metadata_of};
 ghost use Rattle.dk_model.specs.AddObject.{add_of};
 ghost use Rattle.dk_model.specs.RemoveObject.{remove_of};
+ghost use Rattle.dk_model.specs.InfoObject.{info_of};
 ghost use Rattle.dk_model.specs.PlainTables.{is_retention_key as is_retention_key_of, has_own_retention as has_own_retention_of, is_plain as is_plain_action};
 ghost use Rattle.dk_model.specs.ActionObject.{one_key, action_under, plain, keyed, action_of as action_in};
 ghost use Rattle.dk_actjson.specs.Faults.{Gives};
 
 use crate::fault::ActionFault;
-use crate::field::{needed, needed_group, optional, optional_group};
+use crate::field::{lenient, needed, needed_group, optional, optional_group};
 use crate::tree::Tree;
-use dk_model::{Action, ActionKey, AddFile, Metadata, Names, Pairs, Protocol, RemoveFile, Text};
+use dk_model::{Action, ActionKey, AddFile, CommitInfo, Metadata, Names, Pairs, Protocol, RemoveFile, Text};
 use serde_json::Value;
 use std::alloc::Global;
 
@@ -142,6 +143,19 @@ fn read_remove<T: Tree>(alloc: Global, object: &T) -> Result<RemoveFile, ActionF
     })
 }
 
+/// What is said of a commit. A field of another form counts as absent.
+#[tactic(auto, unfolding(dk_model::specs::InfoObject::info_of))]
+fn read_info<T: Tree>(alloc: Global, object: &T) -> Result<CommitInfo, ActionFault>
+    ensures { Gives result (Some (info_of (T.meant object.now))) }
+{
+    let in_commit_timestamp = lenient(alloc, object, "inCommitTimestamp")?;
+    let txn_id = lenient(alloc, object, "txnId")?;
+    Ok(CommitInfo {
+        in_commit_timestamp,
+        txn_id,
+    })
+}
+
 /// The one key of these that the object has.
 fn read_key<T: Tree>(object: &T, keys: &[ActionKey]) -> Result<Option<ActionKey>, ActionFault>
     ensures { Gives result (one_key (T.meant object.now) keys.now) }
@@ -167,6 +181,7 @@ fn read_under<T: Tree>(alloc: Global, key: ActionKey, object: &T) -> Result<Acti
         ActionKey::Metadata => Ok(Action::Metadata(read_metadata(alloc, object)?)),
         ActionKey::Add => Ok(Action::Add(read_add(alloc, object)?)),
         ActionKey::Remove => Ok(Action::Remove(read_remove(alloc, object)?)),
+        ActionKey::Info => Ok(Action::Info(read_info(alloc, object)?)),
         _ => Err(ActionFault::Bad),
     }
 }
@@ -198,7 +213,7 @@ fn is_plain(action: &Action) -> bool
         Action::Protocol(protocol) => protocol.min_reader == 1 || protocol.min_reader == 2,
         Action::Metadata(metadata) => !has_own_retention(metadata),
         Action::Add(file) => !file.vector,
-        Action::Remove(_) => true,
+        Action::Remove(_) | Action::Info(_) => true,
     }
 }
 

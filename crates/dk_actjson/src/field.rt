@@ -1,7 +1,7 @@
 //! The fields of a JSON object.
 
-ghost use Rattle.std.specs.Prelude.{option_map};
-ghost use Rattle.dk_model.specs.Fields.{needed as needed_of, optional as optional_of, group};
+ghost use Rattle.std.specs.Prelude.{Some, option_map};
+ghost use Rattle.dk_model.specs.Fields.{needed as needed_of, optional as optional_of, lenient as lenient_of, group};
 ghost use Rattle.dk_actjson.specs.Faults.{Gives, GivesBy};
 
 use crate::fault::ActionFault;
@@ -33,6 +33,24 @@ pub(crate) fn optional<F: Form, T: Tree>(
 {
     match object.field(key) {
         Some(value) => Ok(Some(F::read(alloc, value)?)),
+        None => Ok(None),
+    }
+}
+
+/// The field of that name, where it is there and has the form.
+pub(crate) fn lenient<F: Form, T: Tree>(
+    alloc: Global,
+    object: &T,
+    key: &str,
+) -> Result<Option<F>, ActionFault>
+    ensures { Gives result (Some (lenient_of F.form key.now (T.meant object.now))) }
+{
+    match object.field(key) {
+        Some(value) => match F::read(alloc, value) {
+            Ok(found) => Ok(Some(found)),
+            Err(ActionFault::Bad) => Ok(None),
+            Err(ActionFault::OutOfMemory) => Err(ActionFault::OutOfMemory),
+        },
         None => Ok(None),
     }
 }

@@ -22,6 +22,6 @@ pub use action::action_of;
 pub use fault::ActionFault;
 pub use read::read_commit;
 pub use write::{
-    append_action, append_add, append_metadata, append_protocol, append_remove, append_tombstone,
-    write_actions,
+    append_action, append_add, append_metadata, append_own_info, append_protocol, append_remove,
+    append_tombstone, write_actions,
 };

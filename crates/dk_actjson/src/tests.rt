@@ -73,7 +73,7 @@ fn the_first_bad_line_is_named(rt: HostRuntime) {
             1,
         ),
         (b"\t\n{\"x\":\"\xff\"}".as_slice(), 2),
-        (b"{}\n{\"commitInfo\":{}}\n".as_slice(), 2),
+        (b"{}\n{\"commitInfo\":[]}\n".as_slice(), 2),
     ] {
         assert_eq!(rt; fault(&rt, text), Some(LineFault::Bad { line }));
     }

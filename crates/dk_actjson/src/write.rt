@@ -2,10 +2,12 @@
 
 ghost use Rattle.std.specs.Prelude.{◌≡◌, ◌++◌, ◌∷◌, [], IfOk, OnOk, false};
 ghost use Rattle.json.specs.Print.{print};
-ghost use Rattle.dk_model.specs.Written.{line_of, text_of};
+ghost use Rattle.dk_model.specs.Written.{line_of, written_line, text_of, own_info_line};
 
 use crate::shown::{close_object, open_object};
-use crate::written::{add_member, metadata_member, protocol_member, remove_member};
+use crate::written::{
+    add_member, metadata_member, own_info_member, protocol_member, remove_member,
+};
 use dk_model::{Action, AddFile, Metadata, Protocol, RemoveFile};
 use json::Writer;
 use std::alloc::{AllocError, Global};
@@ -28,15 +30,17 @@ fn end_line(out: &mut Vec<u8>, writer: Writer) -> Result<(), AllocError>
     Ok(())
 }
 
-/// Appends the line of an action to what `out` holds. After an `Err` nothing is said of `out`.
+/// Appends the line of an action to what `out` holds. What is said of another commit has none: a
+/// transaction speaks of its own (`append_own_info`). After an `Err` nothing is said of `out`.
 pub fn append_action(alloc: Global, out: &mut Vec<u8>, action: &Action) -> Result<(), AllocError>
-    ensures { OnOk result (out.new.items ≡ out.old.items ++ line_of action.now) }
+    ensures { OnOk result (out.new.items ≡ out.old.items ++ written_line action.now) }
 {
     match action {
         Action::Protocol(protocol) => append_protocol(alloc, out, protocol),
         Action::Metadata(metadata) => append_metadata(alloc, out, metadata),
         Action::Add(file) => append_add(alloc, out, file),
         Action::Remove(file) => append_remove(alloc, out, file),
+        Action::Info(_) => Ok(()),
     }
 }
 
@@ -127,7 +131,25 @@ fn append_removal(
     Ok(())
 }
 
-/// The text of the actions, one compact line each.
+/// Appends the line in which a transaction speaks of its own commit to what `out` holds: its id, and
+/// the moment in milliseconds since 1970-01-01T00:00:00Z. After an `Err` nothing is said of `out`.
+pub fn append_own_info(
+    alloc: Global,
+    out: &mut Vec<u8>,
+    txn_id: &str,
+    timestamp: i64,
+) -> Result<(), AllocError>
+    ensures { OnOk result (out.new.items ≡ out.old.items ++ own_info_line txn_id.now timestamp) }
+{
+    let mut writer = start_line(alloc, out);
+    open_object(&mut writer)?;
+    own_info_member(&mut writer, txn_id, timestamp)?;
+    close_object(&mut writer)?;
+    end_line(out, writer)?;
+    Ok(())
+}
+
+/// The text of the actions, one compact line each; what is said of other commits is left out.
 pub fn write_actions(alloc: Global, actions: &[Action]) -> Result<Vec<u8>, AllocError>
     ensures { IfOk result (λ v. v.items ≡ text_of actions.now) }
 {

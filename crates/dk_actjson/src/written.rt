@@ -6,6 +6,7 @@ ghost use Rattle.dk_model.specs.ProtocolObject.{protocol_fields};
 ghost use Rattle.dk_model.specs.MetadataObject.{format_fields, metadata_fields};
 ghost use Rattle.dk_model.specs.AddObject.{add_fields};
 ghost use Rattle.dk_model.specs.RemoveObject.{remove_fields};
+ghost use Rattle.dk_model.specs.InfoObject.{own_info_fields};
 ghost use Rattle.dk_actjson.specs.Tokens.{HasTokens, tokens_of, after_field, after_fields};
 
 use crate::shown::{close_object, field, field_if, open_object, text_field};
@@ -200,5 +201,41 @@ pub(crate) fn remove_member(
 {
     writer.key("remove")?;
     write_remove(writer, path, time, change)?;
+    Ok(())
+}
+
+#[tactic(auto, unfolding(dk_model::specs::InfoObject::own_info_fields))]
+fn own_info_members(writer: &mut Writer, txn_id: &str, timestamp: i64) -> Result<(), AllocError>
+    ensures { OnOk result (HasTokens writer.old
+        (after_fields writer.old.tokens (own_info_fields txn_id.now timestamp)) writer.new) }
+{
+    text_field(writer, "engineInfo", "deltak")?;
+    field(writer, "timestamp", &timestamp)?;
+    text_field(writer, "txnId", txn_id)?;
+    Ok(())
+}
+
+fn write_own_info(writer: &mut Writer, txn_id: &str, timestamp: i64) -> Result<(), AllocError>
+    ensures { OnOk result (HasTokens writer.old (writer.old.tokens
+        ++ tokens_of (object_with (own_info_fields txn_id.now timestamp))) writer.new) }
+{
+    open_object(writer)?;
+    own_info_members(writer, txn_id, timestamp)?;
+    close_object(writer)?;
+    Ok(())
+}
+
+/// What a transaction says of its own commit, under its key.
+#[tactic(auto, unfolding(crate::specs::Tokens::after_field))]
+pub(crate) fn own_info_member(
+    writer: &mut Writer,
+    txn_id: &str,
+    timestamp: i64,
+) -> Result<(), AllocError>
+    ensures { OnOk result (HasTokens writer.old (after_field writer.old.tokens (codes "commitInfo")
+        (Some (object_with (own_info_fields txn_id.now timestamp)))) writer.new) }
+{
+    writer.key("commitInfo")?;
+    write_own_info(writer, txn_id, timestamp)?;
     Ok(())
 }

@@ -61,24 +61,28 @@ made_live (action.Add f) q g r e =
     let ranges : IsAddInRange kept = record { size = r.size; time = r.time; row = r.row; version = r.version } in
     (sym (ap (λ x. x.path) when.1) ∙ sym (same_path q f.path when.0), sym (ap (λ x. x.data_change) when.1), subst IsAddInRange when.1 ranges)
 made_live (action.Remove f) q g r e = absurd (never_live (is_same_text q f.path) f.deletion_timestamp g e)
+made_live (action.Info i) q g r e = cc
 
 made_gone : (a : Action) (q : List ℕ) (t : ℤ) → IsInRange a → change_at q a ≡ Some (gone t) → IsWhole t
 made_gone (action.Protocol p) q t r e = cc
 made_gone (action.Metadata m) q t r e = cc
 made_gone (action.Add f) q t r e = absurd (never_gone (is_same_text q f.path) (record f { data_change = false }) t e)
 made_gone (action.Remove f) q t r e = subst IsWhole (gone_when (is_same_text q f.path) f.deletion_timestamp t e).1 r.time
+made_gone (action.Info i) q t r e = cc
 
 protocol_after : (s : TableState) (a : Action) → IsWellKept s → IsInRange a → IfSome (step s a).protocol IsProtocolInRange
 protocol_after s (action.Protocol p) k r = r
 protocol_after s (action.Metadata m) k r = k.protocol
 protocol_after s (action.Add f) k r = k.protocol
 protocol_after s (action.Remove f) k r = k.protocol
+protocol_after s (action.Info i) k r = k.protocol
 
 metadata_after : (s : TableState) (a : Action) → IsWellKept s → IsInRange a → IfSome (step s a).metadata IsMetadataInRange
 metadata_after s (action.Protocol p) k r = k.metadata
 metadata_after s (action.Metadata m) k r = r
 metadata_after s (action.Add f) k r = k.metadata
 metadata_after s (action.Remove f) k r = k.metadata
+metadata_after s (action.Info i) k r = k.metadata
 
 -- a fact of each file holds after a step where it holds before and of what the step makes live
 files_after : (P : AddFile → Type 0) (s : TableState) (a : Action) (q : List ℕ) → IfSome (get s.files q) P → ((f : AddFile) → change_at q a ≡ Some (live f) → P f) → IfSome (get (step s a).files q) P

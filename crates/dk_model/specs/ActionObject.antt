@@ -12,6 +12,7 @@ use Rattle.dk_model.specs.ProtocolObject.{protocol_of, protocol_fields}
 use Rattle.dk_model.specs.MetadataObject.{metadata_of, metadata_fields}
 use Rattle.dk_model.specs.AddObject.{add_of, add_fields}
 use Rattle.dk_model.specs.RemoveObject.{remove_of, remove_fields}
+use Rattle.dk_model.specs.InfoObject.{info_of, info_fields}
 use Rattle.dk_model.specs.PlainTables.{is_plain}
 
 -- ---- reading
@@ -33,6 +34,7 @@ action_under key.Protocol d = option_map action.Protocol (protocol_of d)
 action_under key.Metadata d = option_map action.Metadata (metadata_of d)
 action_under key.Add d = option_map action.Add (add_of d)
 action_under key.Remove d = option_map action.Remove (remove_of d)
+action_under key.Info d = Some (action.Info (info_of d))
 action_under _ d = None
 
 -- the same, where the table is one that is read so far
@@ -54,12 +56,14 @@ key_name (action.Protocol p) = name_of key.Protocol
 key_name (action.Metadata m) = name_of key.Metadata
 key_name (action.Add f) = name_of key.Add
 key_name (action.Remove r) = name_of key.Remove
+key_name (action.Info i) = name_of key.Info
 
 abbrev pub inner_object : Action → Data
 inner_object (action.Protocol p) = object_with (protocol_fields p)
 inner_object (action.Metadata m) = object_with (metadata_fields m)
 inner_object (action.Add f) = object_with (add_fields f)
 inner_object (action.Remove r) = object_with (remove_fields r)
+inner_object (action.Info i) = object_with (info_fields i)
 
 -- the object of an action
 abbrev pub object_of : Action → Data

@@ -28,6 +28,10 @@ optional form key d = formed form (field key d)
 abbrev pub needed : {A : Type 0} → (Data → Option A) → List ℕ → Data → Option A
 needed form key d = option_and_then form (field key d)
 
+-- what a field of this form has: nothing where it is absent or has another form
+abbrev pub lenient : {A : Type 0} → (Data → Option A) → List ℕ → Data → Option A
+lenient form key d = option_and_then form (field key d)
+
 -- ---- the forms
 
 -- a whole number in the range of i64

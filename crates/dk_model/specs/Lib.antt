@@ -11,6 +11,7 @@ pub mod MetadataObject
 pub mod AddObject
 pub mod RemoveObject
 pub mod ActionKeys
+pub mod InfoObject
 pub mod PlainTables
 pub mod ActionObject
 pub mod CommitText

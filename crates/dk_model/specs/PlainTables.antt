@@ -19,3 +19,4 @@ is_plain (action.Protocol p) = p.min_reader == 1 || p.min_reader == 2
 is_plain (action.Metadata m) = not (has_own_retention m)
 is_plain (action.Add f) = not f.vector
 is_plain (action.Remove r) = true
+is_plain (action.Info i) = true

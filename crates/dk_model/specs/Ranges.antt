@@ -4,6 +4,7 @@ use Rattle.dk_model.specs.declared.action.Protocol.{Protocol}
 use Rattle.dk_model.specs.declared.action.Metadata.{Metadata}
 use Rattle.dk_model.specs.declared.action.AddFile.{AddFile}
 use Rattle.dk_model.specs.declared.action.RemoveFile.{RemoveFile}
+use Rattle.dk_model.specs.declared.action.CommitInfo.{CommitInfo}
 use Rattle.dk_model.specs.declared.action.Action.{Action}
 use Rattle.dk_model.specs.declared.action.Action.TheVariants as action
 
@@ -28,8 +29,12 @@ pub record IsAddInRange (f : AddFile) : Type 0 where
 pub record IsRemoveInRange (r : RemoveFile) : Type 0 where
   pub time : IsWhole r.deletion_timestamp
 
+pub record IsInfoInRange (i : CommitInfo) : Type 0 where
+  pub timestamp : IfSome i.in_commit_timestamp IsWhole
+
 abbrev pub IsInRange : Action → Type 0
 IsInRange (action.Protocol p) = IsProtocolInRange p
 IsInRange (action.Metadata m) = IsMetadataInRange m
 IsInRange (action.Add f) = IsAddInRange f
 IsInRange (action.Remove r) = IsRemoveInRange r
+IsInRange (action.Info i) = IsInfoInRange i

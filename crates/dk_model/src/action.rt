@@ -70,11 +70,22 @@ pub struct RemoveFile {
     pub data_change: bool,
 }
 
-/// One change of a table.
+/// What the writer of a commit says of it, as far as it is read ("Commit Provenance Information").
+#[derive(Debug, Drop)]
+pub struct CommitInfo {
+    /// When the commit was made, where commits carry their own time, in milliseconds since
+    /// 1970-01-01T00:00:00Z.
+    pub in_commit_timestamp: Option<i64>,
+    /// The id of the transaction that made the commit.
+    pub txn_id: Option<Text>,
+}
+
+/// One line of a commit: a change of the table, or what the writer says of the commit.
 #[derive(Debug, Drop)]
 pub enum Action {
     Protocol(Protocol),
     Metadata(Metadata),
     Add(AddFile),
     Remove(RemoveFile),
+    Info(CommitInfo),
 }

@@ -2,7 +2,7 @@
 
 ghost use Rattle.std.specs.Prelude.{◌≡◌, IfOk};
 
-use crate::action::{Action, AddFile, Metadata, Protocol, RemoveFile};
+use crate::action::{Action, AddFile, CommitInfo, Metadata, Protocol, RemoveFile};
 use crate::commit::Commit;
 use crate::pairs::Pairs;
 use crate::text::{Names, Text};
@@ -140,6 +140,18 @@ impl RemoveFile {
     }
 }
 
+impl CommitInfo {
+    /// What is said of a commit, of the same content.
+    pub fn copy(&self, alloc: Global) -> Result<CommitInfo, AllocError>
+        ensures { IfOk result (λ i. i ≡ self.now) }
+    {
+        Ok(CommitInfo {
+            in_commit_timestamp: self.in_commit_timestamp,
+            txn_id: copied_text(alloc, &self.txn_id)?,
+        })
+    }
+}
+
 impl Action {
     /// An action of the same content.
     pub fn copy(&self, alloc: Global) -> Result<Action, AllocError>
@@ -150,6 +162,7 @@ impl Action {
             Action::Metadata(metadata) => Ok(Action::Metadata(metadata.copy(alloc)?)),
             Action::Add(file) => Ok(Action::Add(file.copy(alloc)?)),
             Action::Remove(file) => Ok(Action::Remove(file.copy(alloc)?)),
+            Action::Info(info) => Ok(Action::Info(info.copy(alloc)?)),
         }
     }
 }

@@ -16,7 +16,7 @@ mod tests;
 mod text;
 mod text_map;
 
-pub use action::{Action, AddFile, Metadata, Protocol, RemoveFile};
+pub use action::{Action, AddFile, CommitInfo, Metadata, Protocol, RemoveFile};
 pub use action_key::ActionKey;
 pub use commit::Commit;
 pub use fault::LineFault;

@@ -71,6 +71,7 @@ impl TableState {
             }
             Action::Add(file) => self.add(alloc, file),
             Action::Remove(file) => self.remove(file),
+            Action::Info(_) => Ok(()),
         }
     }
 
