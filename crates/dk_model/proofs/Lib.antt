@@ -2,3 +2,12 @@ pub mod TextMaps
 pub mod Changes
 pub mod WellKept
 pub mod FirstBad
+pub mod JsonText
+pub mod Clear
+pub mod Found
+pub mod ShownFields
+pub mod ShownObjects
+pub mod FormsBack
+pub mod ObjectsBack
+pub mod Utf8Text
+pub mod LinesBack

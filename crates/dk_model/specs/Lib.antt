@@ -16,4 +16,5 @@ pub mod PlainTables
 pub mod ActionObject
 pub mod CommitText
 pub mod Written
+pub mod ReadBack
 pub mod LineFaults

@@ -2,6 +2,7 @@
 
 ghost use Rattle.dk_model.specs.Changes.{LastDecides};
 ghost use Rattle.dk_model.specs.CommitText.{FaultIsFirst};
+ghost use Rattle.dk_model.specs.ReadBack.{WrittenReadsBack, OwnReadsBack, LinesAreUtf8};
 ghost use Rattle.dk_model.specs.WellKept.{StaysWellKept};
 
 /// Lists of actions whose last protocol, metadata and change of each path are the same lead from every
@@ -18,4 +19,20 @@ pub fn stays_well_kept()
 /// The number of a fault is that of the first line that means nothing.
 pub fn fault_is_first()
     ensures { FaultIsFirst }
+{}
+
+/// A text that is written for actions means those of them that have a line.
+pub fn written_reads_back()
+    ensures { WrittenReadsBack }
+{}
+
+/// Behind the line in which a transaction speaks of its own commit, such a text means that and the
+/// actions.
+pub fn own_reads_back()
+    ensures { OwnReadsBack }
+{}
+
+/// Where a text that is written for actions is UTF-8, so is each of their lines.
+pub fn lines_are_utf8()
+    ensures { LinesAreUtf8 }
 {}

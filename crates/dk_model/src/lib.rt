@@ -8,6 +8,7 @@ mod action_key;
 mod commit;
 mod copied;
 mod fault;
+mod kept;
 pub mod laws;
 mod pairs;
 mod state;
