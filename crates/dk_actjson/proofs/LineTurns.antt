@@ -3,7 +3,7 @@ use Rattle.std.proofs.Common.{◌≡◌, ℕ, ◌+◌, ◌<◌, ◌≤◌, ◌==
 use Rattle.std.specs.Prelude.{position}
 use Rattle.std.specs.List.{position_or_len, slice_split, onto_first}
 use Rattle.std.specs.Str.{IsUtf8, is_utf8}
-use Rattle.std.proofs.lemmas.Str.{IsUtf8-from_is_utf8, is_utf8-from_IsUtf8}
+use Rattle.std.proofs.lemmas.Str.{IsUtf8-from_is_utf8}
 use Rattle.std.proofs.lemmas.List.Splits.{slice_split_first}
 use Rattle.std.proofs.lemmas.Option.{cond_some}
 use borrow.Author.Tests.{ltb-true, ltb-false}
@@ -71,6 +71,3 @@ json_if false d e = refl
 
 pub json_none : (line : List ℕ) → (IsUtf8 line → ⊥) → json_of line ≡ None
 json_none line h = json_if (is_utf8 line) (read line) (not_true (is_utf8 line) (λ e. h (IsUtf8-from_is_utf8 line e)))
-
-pub json_some : (line : List ℕ) → IsUtf8 line → json_of line ≡ read line
-json_some line h = rw (is_utf8-from_IsUtf8 line h)

@@ -14,7 +14,9 @@ ghost use Rattle.dk_actjson.specs.Faults.{Gives};
 use crate::fault::ActionFault;
 use crate::field::{lenient, needed, needed_group, optional, optional_group};
 use crate::tree::Tree;
-use dk_model::{Action, ActionKey, AddFile, CommitInfo, Metadata, Names, Pairs, Protocol, RemoveFile, Text};
+use dk_model::{
+    Action, ActionKey, AddFile, CommitInfo, Metadata, Names, Pairs, Protocol, RemoveFile, Text,
+};
 use serde_json::Value;
 use std::alloc::Global;
 

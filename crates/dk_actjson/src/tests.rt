@@ -1,7 +1,7 @@
 //! Texts that are read and written as worked examples say.
 
 use crate::*;
-use dk_model::{Action, LineFault, TableState};
+use dk_model::{Action, Commit, LineFault, TableState};
 use serde_json::Value;
 use std::test::Fail;
 
@@ -53,6 +53,62 @@ fn a_value_is_read_as_its_action(rt: HostRuntime) -> Result<(), Fail> {
     assert_eq!(rt; file.path.as_str(), "a");
     assert_eq!(rt; file.deletion_timestamp, 7);
     Ok(())
+}
+
+#[test]
+fn a_transactions_own_line_is_read_and_left_out(rt: HostRuntime) -> Result<(), Fail> {
+    let id = "00000000-0000-0000-0000-000000000020";
+    let mut line = Vec::new(rt.alloc());
+    append_own_info(rt.alloc(), &mut line, id, 1000)?;
+    assert_eq!(rt;
+        line.as_slice(),
+        b"{\"commitInfo\":{\"engineInfo\":\"deltak\",\"timestamp\":1000,\"txnId\":\"00000000-0000-0000-0000-000000000020\"}}\n".as_slice()
+    );
+    let commit = read_commit(rt.alloc(), &line)?;
+    let written = write_actions(rt.alloc(), commit.as_slice())?;
+    assert!(rt; written.is_empty());
+    let said = info(&commit);
+    assert_eq!(rt; said, Some((None, Some(id))));
+    Ok(())
+}
+
+fn info(commit: &Commit) -> Option<(Option<i64>, Option<&str>)> {
+    match commit.as_slice().first()? {
+        Action::Info(info) => {
+            let id = info.txn_id.as_ref().map(|id| id.as_str());
+            Some((info.in_commit_timestamp, id))
+        }
+        _ => None,
+    }
+}
+
+fn said(rt: &HostRuntime, text: &[u8], id: &str) -> (Option<i64>, bool) {
+    match read_commit(rt.alloc(), text) {
+        Ok(commit) => match info(&commit) {
+            Some((time, found)) => (time, found == Some(id)),
+            None => (Some(-1), false),
+        },
+        Err(_) => (Some(-2), false),
+    }
+}
+
+#[test]
+fn what_is_said_of_a_commit_is_read_leniently(rt: HostRuntime) {
+    for (text, time, has_id) in [
+        (
+            b"{\"commitInfo\":{\"txnId\":\"x\",\"inCommitTimestamp\":5}}".as_slice(),
+            Some(5),
+            true,
+        ),
+        (
+            b"{\"commitInfo\":{\"txnId\":7,\"inCommitTimestamp\":1.0,\"operationMetrics\":{\"ratio\":0.5}}}".as_slice(),
+            None,
+            false,
+        ),
+        (b"{\"commitInfo\":{\"txnId\":null}}".as_slice(), None, false),
+    ] {
+        assert_eq!(rt; said(&rt, text, "x"), (time, has_id));
+    }
 }
 
 fn fault(rt: &HostRuntime, text: &[u8]) -> Option<LineFault> {

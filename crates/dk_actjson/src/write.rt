@@ -1,7 +1,11 @@
 //! The text of actions: one compact line each, with the keys of every object in byte order.
 
-ghost use Rattle.std.specs.Prelude.{◌≡◌, ◌++◌, ◌∷◌, [], IfOk, OnOk, false};
+ghost use Rattle.std.specs.Prelude.{◌≡◌, ◌++◌, ◌∷◌, [], Some, IfOk, OnOk, false};
+ghost use Rattle.std.specs.List.{AllByRecursion};
+ghost use Rattle.std.specs.Str.{IsUtf8};
 ghost use Rattle.json.specs.Print.{print};
+ghost use Rattle.dk_model.specs.CommitText.{commit_of};
+ghost use Rattle.dk_model.specs.ReadBack.{IsSound, IsReadable, written_of};
 ghost use Rattle.dk_model.specs.Written.{line_of, written_line, text_of, own_info_line};
 
 use crate::shown::{close_object, open_object};
@@ -23,11 +27,91 @@ fn start_line(alloc: Global, out: &mut Vec<u8>) -> Writer
 
 /// Gives `out` what the writer holds, and a newline.
 fn end_line(out: &mut Vec<u8>, writer: Writer) -> Result<(), AllocError>
-    ensures { OnOk result (out.new.items ≡ (writer.before ++ print writer.tokens) ++ 10 ∷ []) }
+    ensures text { OnOk result (out.new.items ≡ (writer.before ++ print writer.tokens) ++ 10 ∷ []) }
+    ensures utf8 { IsUtf8 (print writer.tokens) }
 {
     *out = writer.into_inner();
     out.push(b'\n')?;
     Ok(())
+}
+
+fn protocol_line(alloc: Global, out: &mut Vec<u8>, protocol: &Protocol) -> Result<(), AllocError>
+    ensures text { OnOk result (out.new.items ≡ out.old.items ++ line_of (Action.Protocol protocol.now)) }
+    ensures utf8 { OnOk result (IsUtf8 (line_of (Action.Protocol protocol.now))) }
+{
+    let mut writer = start_line(alloc, out);
+    open_object(&mut writer)?;
+    protocol_member(&mut writer, protocol)?;
+    close_object(&mut writer)?;
+    end_line(out, writer)?;
+    Ok(())
+}
+
+fn metadata_line(alloc: Global, out: &mut Vec<u8>, metadata: &Metadata) -> Result<(), AllocError>
+    ensures text { OnOk result (out.new.items ≡ out.old.items ++ line_of (Action.Metadata metadata.now)) }
+    ensures utf8 { OnOk result (IsUtf8 (line_of (Action.Metadata metadata.now))) }
+{
+    let mut writer = start_line(alloc, out);
+    open_object(&mut writer)?;
+    metadata_member(&mut writer, metadata)?;
+    close_object(&mut writer)?;
+    end_line(out, writer)?;
+    Ok(())
+}
+
+fn add_line(alloc: Global, out: &mut Vec<u8>, file: &AddFile) -> Result<(), AllocError>
+    ensures text { OnOk result (out.new.items ≡ out.old.items ++ line_of (Action.Add file.now)) }
+    ensures utf8 { OnOk result (IsUtf8 (line_of (Action.Add file.now))) }
+{
+    let mut writer = start_line(alloc, out);
+    open_object(&mut writer)?;
+    add_member(&mut writer, file)?;
+    close_object(&mut writer)?;
+    end_line(out, writer)?;
+    Ok(())
+}
+
+/// The line of a removed file, by its parts.
+fn removal_line(
+    alloc: Global,
+    out: &mut Vec<u8>,
+    path: &str,
+    time: i64,
+    change: bool,
+) -> Result<(), AllocError>
+    ensures text { OnOk result (out.new.items ≡ out.old.items ++ line_of (Action.Remove
+        (record { path = path.now; deletion_timestamp = time; data_change = change }))) }
+    ensures utf8 { OnOk result (IsUtf8 (line_of (Action.Remove
+        (record { path = path.now; deletion_timestamp = time; data_change = change })))) }
+{
+    let mut writer = start_line(alloc, out);
+    open_object(&mut writer)?;
+    remove_member(&mut writer, path, time, change)?;
+    close_object(&mut writer)?;
+    end_line(out, writer)?;
+    Ok(())
+}
+
+fn remove_line(alloc: Global, out: &mut Vec<u8>, file: &RemoveFile) -> Result<(), AllocError>
+    ensures text { OnOk result (out.new.items ≡ out.old.items ++ line_of (Action.Remove file.now)) }
+    ensures utf8 { OnOk result (IsUtf8 (line_of (Action.Remove file.now))) }
+{
+    let path = file.path.as_str();
+    removal_line(alloc, out, path, file.deletion_timestamp, file.data_change)
+}
+
+/// The line of an action, where it has one.
+fn action_line(alloc: Global, out: &mut Vec<u8>, action: &Action) -> Result<(), AllocError>
+    ensures text { OnOk result (out.new.items ≡ out.old.items ++ written_line action.now) }
+    ensures utf8 { OnOk result (IsUtf8 (written_line action.now)) }
+{
+    match action {
+        Action::Protocol(protocol) => protocol_line(alloc, out, protocol),
+        Action::Metadata(metadata) => metadata_line(alloc, out, metadata),
+        Action::Add(file) => add_line(alloc, out, file),
+        Action::Remove(file) => remove_line(alloc, out, file),
+        Action::Info(_) => Ok(()),
+    }
 }
 
 /// Appends the line of an action to what `out` holds. What is said of another commit has none: a
@@ -35,13 +119,7 @@ fn end_line(out: &mut Vec<u8>, writer: Writer) -> Result<(), AllocError>
 pub fn append_action(alloc: Global, out: &mut Vec<u8>, action: &Action) -> Result<(), AllocError>
     ensures { OnOk result (out.new.items ≡ out.old.items ++ written_line action.now) }
 {
-    match action {
-        Action::Protocol(protocol) => append_protocol(alloc, out, protocol),
-        Action::Metadata(metadata) => append_metadata(alloc, out, metadata),
-        Action::Add(file) => append_add(alloc, out, file),
-        Action::Remove(file) => append_remove(alloc, out, file),
-        Action::Info(_) => Ok(()),
-    }
+    action_line(alloc, out, action)
 }
 
 /// Appends the line of a protocol to what `out` holds. After an `Err` nothing is said of `out`.
@@ -52,12 +130,7 @@ pub fn append_protocol(
 ) -> Result<(), AllocError>
     ensures { OnOk result (out.new.items ≡ out.old.items ++ line_of (Action.Protocol protocol.now)) }
 {
-    let mut writer = start_line(alloc, out);
-    open_object(&mut writer)?;
-    protocol_member(&mut writer, protocol)?;
-    close_object(&mut writer)?;
-    end_line(out, writer)?;
-    Ok(())
+    protocol_line(alloc, out, protocol)
 }
 
 /// Appends the line of a metaData to what `out` holds. After an `Err` nothing is said of `out`.
@@ -68,12 +141,7 @@ pub fn append_metadata(
 ) -> Result<(), AllocError>
     ensures { OnOk result (out.new.items ≡ out.old.items ++ line_of (Action.Metadata metadata.now)) }
 {
-    let mut writer = start_line(alloc, out);
-    open_object(&mut writer)?;
-    metadata_member(&mut writer, metadata)?;
-    close_object(&mut writer)?;
-    end_line(out, writer)?;
-    Ok(())
+    metadata_line(alloc, out, metadata)
 }
 
 /// Appends the line of a file that is added to what `out` holds. After an `Err` nothing is said of
@@ -81,12 +149,7 @@ pub fn append_metadata(
 pub fn append_add(alloc: Global, out: &mut Vec<u8>, file: &AddFile) -> Result<(), AllocError>
     ensures { OnOk result (out.new.items ≡ out.old.items ++ line_of (Action.Add file.now)) }
 {
-    let mut writer = start_line(alloc, out);
-    open_object(&mut writer)?;
-    add_member(&mut writer, file)?;
-    close_object(&mut writer)?;
-    end_line(out, writer)?;
-    Ok(())
+    add_line(alloc, out, file)
 }
 
 /// Appends the line of a file that is removed to what `out` holds. After an `Err` nothing is said
@@ -94,8 +157,7 @@ pub fn append_add(alloc: Global, out: &mut Vec<u8>, file: &AddFile) -> Result<()
 pub fn append_remove(alloc: Global, out: &mut Vec<u8>, file: &RemoveFile) -> Result<(), AllocError>
     ensures { OnOk result (out.new.items ≡ out.old.items ++ line_of (Action.Remove file.now)) }
 {
-    let path = file.path.as_str();
-    append_removal(alloc, out, path, file.deletion_timestamp, file.data_change)
+    remove_line(alloc, out, file)
 }
 
 /// Appends the line of a tombstone to what `out` holds: a file that was removed at that time, in
@@ -110,25 +172,7 @@ pub fn append_tombstone(
     ensures { OnOk result (out.new.items ≡ out.old.items ++ line_of (Action.Remove
         (record { path = path.now; deletion_timestamp = time; data_change = false }))) }
 {
-    append_removal(alloc, out, path, time, false)
-}
-
-fn append_removal(
-    alloc: Global,
-    out: &mut Vec<u8>,
-    path: &str,
-    time: i64,
-    data_change: bool,
-) -> Result<(), AllocError>
-    ensures { OnOk result (out.new.items ≡ out.old.items ++ line_of (Action.Remove
-        (record { path = path.now; deletion_timestamp = time; data_change = data_change }))) }
-{
-    let mut writer = start_line(alloc, out);
-    open_object(&mut writer)?;
-    remove_member(&mut writer, path, time, data_change)?;
-    close_object(&mut writer)?;
-    end_line(out, writer)?;
-    Ok(())
+    removal_line(alloc, out, path, time, false)
 }
 
 /// Appends the line in which a transaction speaks of its own commit to what `out` holds: its id, and
@@ -149,13 +193,25 @@ pub fn append_own_info(
     Ok(())
 }
 
+/// Appends the line of an action that is one of a list.
+fn sound_line(alloc: Global, out: &mut Vec<u8>, action: &Action) -> Result<(), AllocError>
+    ensures text { OnOk result (out.new.items ≡ out.old.items ++ written_line action.now) }
+    ensures sound { OnOk result (IsSound action.now) }
+{
+    action.note_kept();
+    action_line(alloc, out, action)
+}
+
 /// The text of the actions, one compact line each; what is said of other commits is left out.
 pub fn write_actions(alloc: Global, actions: &[Action]) -> Result<Vec<u8>, AllocError>
-    ensures { IfOk result (λ v. v.items ≡ text_of actions.now) }
+    ensures text { IfOk result (λ v. v.items ≡ text_of actions.now) }
+    ensures sound { OnOk result (AllByRecursion IsSound actions.now) }
+    ensures reads_back { IfOk result (λ v. AllByRecursion IsReadable actions.now
+        → commit_of v.items ≡ Some (written_of actions.now)) }
 {
     let mut text = Vec::new(alloc);
     'actions: for action in actions {
-        append_action(alloc, &mut text, action)?;
+        sound_line(alloc, &mut text, action)?;
     }
     Ok(text)
 }

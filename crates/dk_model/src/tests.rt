@@ -1,6 +1,6 @@
 //! What a state answers on worked examples.
 
-use crate::{Action, AddFile, Commit, Pairs, RemoveFile, TableState, Text};
+use crate::{Action, AddFile, Commit, CommitInfo, Pairs, RemoveFile, TableState, Text};
 use std::alloc::{AllocError, Global};
 use std::test::Fail;
 
@@ -28,9 +28,17 @@ fn removed(alloc: Global, path: &str) -> Result<Action, AllocError> {
     }))
 }
 
-/// An add, its removal, and the add again.
+fn said(alloc: Global, id: &str) -> Result<Action, AllocError> {
+    Ok(Action::Info(CommitInfo {
+        in_commit_timestamp: Some(9_500_000_000),
+        txn_id: Some(Text::from_str(alloc, id)?),
+    }))
+}
+
+/// What is said of the commit, an add, its removal, and the add again.
 fn history(alloc: Global) -> Result<Commit, AllocError> {
     let mut actions = Vec::new(alloc);
+    actions.push(said(alloc, "t")?)?;
     actions.push(added(alloc, "a")?)?;
     actions.push(removed(alloc, "a")?)?;
     actions.push(added(alloc, "a")?)?;

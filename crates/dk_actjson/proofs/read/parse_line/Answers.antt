@@ -1,9 +1,10 @@
 use Rattle.std.proofs.Common.{ap, subst, sym, ◌∙◌}
 use Rattle.json.specs.Value.{value_view}
 use Rattle.serde_json.specs.Read.{read}
+use Rattle.dk_model.proofs.LinesBack.{json_some}
 use Rattle.dk_actjson.specs.Faults.{GivesBy}
 use Rattle.dk_actjson.specs.Seen.{seen}
-use Rattle.dk_actjson.proofs.LineTurns.{json_none, json_some}
+use Rattle.dk_actjson.proofs.LineTurns.{json_none}
 use Rattle.dk_actjson.proofs.read.parse_line.Goals as goal
 
 pub returns-in_default : goal.returns-in_default
