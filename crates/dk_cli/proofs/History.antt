@@ -1,85 +1,23 @@
--- Over a whole log, what `show` means is the text of the fold.
-use Rattle.std.proofs.Common.{◌≡◌, ℕ, ℤ, suc, zero, ◌+◌, ◌-◌, ◌<◌, ◌≤◌, ◌^◌, List, [], length, take, get_or, refl, ap, ◌∙◌, Bool, true, false, arith}
-use Rattle.std.specs.Prelude.{Option, Some, None, Result, Ok, Err, IfSome, option_and_then, option_map, is_some}
-use Rattle.std.proofs.lemmas.Option.{slice_get-get_or}
-use Rattle.std.proofs.Math.Seq.{take-suc, take-length}
-use Rattle.dk_store.specs.Told.{Told, Stored}
-use Rattle.dk_store.specs.Objects.{object, content}
+-- Over a whole log, what `show` gives is the text of the fold.
+use Rattle.std.proofs.Common.{◌≡◌, ℕ, ℤ, ◌-◌, List, length, refl, ap, ◌∙◌}
+use Rattle.std.specs.Prelude.{Option, Some, None, Result, Ok, IfSome}
+use Rattle.dk_store.specs.Told.{Told}
 use Rattle.dk_model.specs.declared.action.Action.{Action}
 use Rattle.dk_model.specs.declared.action.Protocol.{Protocol}
 use Rattle.dk_model.specs.declared.action.Metadata.{Metadata}
 use Rattle.dk_model.specs.State.{fold}
-use Rattle.dk_model.specs.CommitText.{commit_of, reading_of}
-use Rattle.dk_model.specs.CommitText as texts
-use Rattle.dk_paths.specs.Names.{commit_path}
+use Rattle.dk_engine.specs.declared.refusal.Refusal.{Refusal}
+use Rattle.dk_engine.specs.declared.refusal.Refusal.TheVariants as refusals
+use Rattle.dk_snapshot.specs.History.{IsLog}
+use Rattle.dk_snapshot.proofs.History.{newest_is}
 use Rattle.dk_cli.specs.declared.status.Status.{Status}
 use Rattle.dk_cli.specs.declared.status.Status.TheVariants as statuses
-use Rattle.dk_cli.specs.declared.refusal.Refusal.TheVariants as refusals
-use Rattle.dk_cli.specs.Answers.{Why}
-use Rattle.dk_cli.specs.Plan.{stands, greatest_below, plan, count_from}
-use Rattle.dk_cli.specs.Show.{show, state_text, commits_below, commit_in, commit_at, meant}
+use Rattle.dk_cli.specs.Show.{show, text_of_opened}
 use Rattle.dk_cli.specs.Shown.{shown}
 use Rattle.dk_cli.specs.Run.{Answers}
-use Rattle.dk_cli.specs.History.{IsLog, Shows}
-use Rattle.dk_cli.proofs.Greatest.{greatest_below-is, first_failing-none}
+use Rattle.dk_cli.specs.History.{Shows}
 
--- a commit that is read is there
-some_content : (events : List Told) (path : List ℕ) (x : List Action) → option_and_then commit_of (content events path) ≡ Some x → is_some (object events path) ≡ true
-some_content events path x h = go (object events path) h
-  where
-    go : (o : Option Stored) → option_and_then commit_of (option_map (λ s. s.bytes) o) ≡ Some x → is_some o ≡ true
-    go None e = cc
-    go (Some s) e = refl
-
-no_content : (events : List Told) (path : List ℕ) → content events path ≡ None → is_some (object events path) ≡ false
-no_content events path h = go (object events path) h
-  where
-    go : (o : Option Stored) → option_map (λ s. s.bytes) o ≡ None → is_some o ≡ false
-    go None e = refl
-    go (Some s) e = cc
-
-meant_is : (path : List ℕ) (r : Result (List Action) ℕ) (x : List Action) → texts.commit_in r ≡ Some x → meant path r ≡ Ok x
-meant_is path (Ok actions) x h = let same : actions ≡ x = cc in ap Ok same
-meant_is path (Err line) x h = cc
-
-commit_in-is : (path : List ℕ) (c : Option (List ℕ)) (x : List Action) → option_and_then commit_of c ≡ Some x → commit_in path c ≡ Ok x
-commit_in-is path None x h = cc
-commit_in-is path (Some bytes) x h = meant_is path (reading_of bytes) x h
-
--- how many commits are to be read, by the greatest version and that all below it stand
-counted : (test : ℕ → Bool) (latest : ℕ) → ((w : ℕ) → w ≤ latest → test w ≡ true) → count_from test (Some latest) ≡ Ok (latest + 1)
-counted test latest all = rw (first_failing-none test 0 (latest + 1) (λ w a b. all w (omega arith))) refl
-
-counted_below : (test : ℕ → Bool) (limit latest : ℕ) → latest < limit → ((w : ℕ) → w ≤ latest → test w ≡ true) → ((w : ℕ) → latest < w → w < limit → test w ≡ false)
-    → count_from test (greatest_below test limit) ≡ Ok (latest + 1)
-counted_below test limit latest lt all above = rw (greatest_below-is test limit latest lt (all latest (omega arith)) above) (counted test latest all)
-
-module _ (events : List Told) (log : List (List Action)) (is : IsLog events log) where
-  stands_in : (v : ℕ) → v < length log → stands events v ≡ true
-  stands_in v lt = some_content events (commit_path v) (get_or log v []) (is.each v lt ∙ slice_get-get_or log v [] lt)
-
-  stands_above : (v : ℕ) → length log ≤ v → v < 2 ^ 63 → stands events v ≡ false
-  stands_above v le small = no_content events (commit_path v) (is.last v le small)
-
-  log_commits : (k : ℕ) → k ≤ length log → commits_below events k ≡ Ok (take k log)
-  log_commits zero le = refl
-  log_commits (suc k) le =
-      let lt : k < length log = omega arith in
-      let here : commit_at events k ≡ Ok (get_or log k []) = commit_in-is (commit_path k) (content events (commit_path k)) (get_or log k []) (is.each k lt ∙ slice_get-get_or log k [] lt) in
-      rw (here, log_commits k (omega arith), take-suc log k [] lt) refl
-
-  plan_log : plan events ≡ Ok (length log)
-  plan_log =
-      let some : 0 < length log = is.some in
-      let small : length log ≤ 2 ^ 63 = is.small in
-      let back : length log - 1 + 1 ≡ length log = omega arith in
-      counted_below (stands events) (2 ^ 63) (length log - 1) (omega arith) (λ w a. stands_in w (omega arith)) (λ w a b. stands_above w (omega arith) b)
-      ∙ ap Ok back
-
-  show_log : (cut : ℤ) → show events cut ≡ state_text (length log - 1) (fold log) cut
-  show_log cut = rw (plan_log, log_commits (length log) (omega arith), take-length log) refl
-
-answers_shows : (told : Result (List ℕ) Why) (text : List ℕ) (old new : Option (List ℕ)) (status : Status) → told ≡ Ok text → Answers told old status new → Shows text old status new
+answers_shows : (told : Result (List ℕ) Refusal) (text : List ℕ) (old new : Option (List ℕ)) (status : Status) → told ≡ Ok text → Answers told old status new → Shows text old status new
 answers_shows told text old new statuses.Done e (t, m, n) = let same : t ≡ text = cc in rw (← same) n
 answers_shows told text old new statuses.SinkFault e (t, c, m, n) = let same : t ≡ text = cc in (c, rw (← same) n)
 answers_shows told text old new (statuses.Refused refusals.Store) e h = h.1
@@ -89,13 +27,18 @@ answers_shows told text old new (statuses.Refused (refusals.Damaged path place))
 answers_shows told text old new statuses.Usage e h = h
 answers_shows told text old new statuses.SourceFault e h = h
 
+-- the text of a log that has both a protocol and metadata
+show_log : (events : List Told) (log : List (List Action)) (protocol : Protocol) (metadata : Metadata) (cut : ℤ) → IsLog events log
+    → (fold log).protocol ≡ Some protocol → (fold log).metadata ≡ Some metadata → show events cut ≡ Ok (shown (length log - 1) (fold log) cut)
+show_log events log protocol metadata cut is p m = ap (text_of_opened cut) (newest_is events log is) ∙ rw (p, m) refl
+
 -- the program's answer over a store that tells a whole log
 pub whole_log : (told : Option (List Told)) (cut passed : ℤ) (old new : Option (List ℕ)) (status : Status)
     → passed ≡ cut
     → IfSome told (λ events. Answers (show events passed) old status new)
     → IfSome told (λ events. (log : List (List Action)) (protocol : Protocol) (metadata : Metadata) → IsLog events log
     → (fold log).protocol ≡ Some protocol → (fold log).metadata ≡ Some metadata
-    → Shows (shown (length log - 1) protocol metadata (fold log) cut) old status new)
+    → Shows (shown (length log - 1) (fold log) cut) old status new)
 whole_log None cut passed old new status same h = tt
 whole_log (Some events) cut passed old new status same h = λ log protocol metadata is p m.
-    answers_shows (show events passed) (shown (length log - 1) protocol metadata (fold log) cut) old new status (ap (show events) same ∙ show_log events log is cut ∙ rw (p, m) refl) h
+    answers_shows (show events passed) (shown (length log - 1) (fold log) cut) old new status (ap (show events) same ∙ show_log events log protocol metadata cut is p m) h

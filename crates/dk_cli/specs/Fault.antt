@@ -5,7 +5,7 @@ use Rattle.serde_json.specs.Written.{compact_text}
 use Rattle.dk_model.specs.Shown.{object_with}
 use Rattle.dk_cli.specs.declared.status.Status.{Status}
 use Rattle.dk_cli.specs.declared.status.Status.TheVariants as statuses
-use Rattle.dk_cli.specs.declared.refusal.Refusal.TheVariants as refusals
+use Rattle.dk_engine.specs.declared.refusal.Refusal.TheVariants as refusals
 
 -- {"path":P}
 unfoldable pub path_object : List ℕ → Data

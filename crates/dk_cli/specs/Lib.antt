@@ -1,10 +1,6 @@
-pub mod Answers
 pub mod Fault
 pub mod History
-pub mod Listed
-pub mod Plan
 pub mod Run
 pub mod Show
 pub mod Shown
 pub mod Status
-pub mod Versions

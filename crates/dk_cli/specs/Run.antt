@@ -4,7 +4,8 @@ use Rattle.std.specs.Global.{Global}
 use Rattle.dk_store.specs.Stream.{more}
 use Rattle.dk_cli.specs.declared.status.Status.{Status}
 use Rattle.dk_cli.specs.declared.status.Status.TheVariants as statuses
-use Rattle.dk_cli.specs.Answers.{Why, Refuses}
+use Rattle.dk_engine.specs.declared.refusal.Refusal.{Refusal}
+use Rattle.dk_engine.specs.Answers.{Refuses}
 
 -- the command line, by its bytes
 abbrev pub words_of : List (String Global) → List (List ℕ)
@@ -15,7 +16,7 @@ abbrev pub IsShow : List (String Global) → Type 0
 IsShow words = words_of words ≡ codes "show" ∷ []
 
 -- With Done the sink took the text that is meant, with SinkFault a beginning of it; a refusal is the meaning's, and then nothing was written.
-abbrev pub Answers : Result (List ℕ) Why → Option (List ℕ) → Status → Option (List ℕ) → Type 0
+abbrev pub Answers : Result (List ℕ) Refusal → Option (List ℕ) → Status → Option (List ℕ) → Type 0
 Answers meant old statuses.Done new = (text : List ℕ) × (meant ≡ Ok text) × (new ≡ more old text)
 Answers meant old statuses.SinkFault new = (text : List ℕ) × (count : ℕ) × (meant ≡ Ok text) × (new ≡ more old (take count text))
 Answers meant old (statuses.Refused refusal) new = Refuses refusal meant × (new ≡ old)

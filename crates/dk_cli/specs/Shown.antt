@@ -1,16 +1,15 @@
 -- The text of `show`: a line for the version, then a line for each action of the state.
 use Rattle.std.specs.Prelude.{ℕ, ℤ, List, [], ◌∷◌, ◌++◌, Bool, false, Some, map, filter, codes, int_lt}
 use Rattle.std.specs.FinMap as maps
+use Rattle.std.specs.Option.{option_to_list}
 use Rattle.serde_json.specs.Data.{Data, number, unsigned}
 use Rattle.serde_json.specs.Written.{compact_text}
-use Rattle.dk_model.specs.declared.action.Protocol.{Protocol}
-use Rattle.dk_model.specs.declared.action.Metadata.{Metadata}
 use Rattle.dk_model.specs.declared.action.AddFile.{AddFile}
 use Rattle.dk_model.specs.declared.action.Action.{Action}
 use Rattle.dk_model.specs.declared.action.Action.TheVariants as actions
 use Rattle.dk_model.specs.declared.state.TableState.{TableState}
 use Rattle.dk_model.specs.Shown.{object_with}
-use Rattle.dk_model.specs.Written.{line_of, text_of}
+use Rattle.dk_model.specs.Written.{text_of}
 
 -- {"snapshot":{"version":V}}
 unfoldable pub snapshot_data : ℕ → Data
@@ -32,13 +31,14 @@ abbrev pub removal : List ℕ × ℤ → Action
 removal tombstone = actions.Remove (record { path = tombstone.0; deletion_timestamp = tombstone.1; data_change = false })
 
 -- the lines of the version, its protocol and its metadata
-unfoldable pub head_text : ℕ → Protocol → Metadata → List ℕ
-head_text version protocol metadata = snapshot_line version ++ (line_of (actions.Protocol protocol) ++ line_of (actions.Metadata metadata))
+unfoldable pub head_text : ℕ → TableState → List ℕ
+head_text version state =
+    snapshot_line version ++ (text_of (map (λ p. actions.Protocol p) (option_to_list state.protocol)) ++ text_of (map (λ m. actions.Metadata m) (option_to_list state.metadata)))
 
 -- the files by path, then the unexpired tombstones by path
 abbrev pub file_actions : TableState → ℤ → List Action
 file_actions state cut = map live (maps.entries state.files) ++ map removal (filter (is_unexpired cut) (maps.entries state.tombstones))
 
--- the text of a version whose state has this protocol and this metadata
-abbrev pub shown : ℕ → Protocol → Metadata → TableState → ℤ → List ℕ
-shown version protocol metadata state cut = head_text version protocol metadata ++ text_of (file_actions state cut)
+-- the text of a version with this state
+abbrev pub shown : ℕ → TableState → ℤ → List ℕ
+shown version state cut = head_text version state ++ text_of (file_actions state cut)

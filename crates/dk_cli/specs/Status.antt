@@ -2,7 +2,7 @@
 use Rattle.std.specs.Prelude.{ℕ}
 use Rattle.dk_cli.specs.declared.status.Status.{Status}
 use Rattle.dk_cli.specs.declared.status.Status.TheVariants as statuses
-use Rattle.dk_cli.specs.declared.refusal.Refusal.TheVariants as refusals
+use Rattle.dk_engine.specs.declared.refusal.Refusal.TheVariants as refusals
 
 abbrev pub code_of : Status → ℕ
 code_of statuses.Done = 0

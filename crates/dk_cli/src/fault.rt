@@ -5,8 +5,8 @@ ghost use Rattle.serde_json.specs.View.{view};
 ghost use Rattle.serde_json.specs.Written.{compact_text, has_float};
 ghost use Rattle.dk_cli.specs.Fault.{fault_text, path_object, place_object};
 
-use crate::refusal::Refusal;
 use crate::status::Status;
+use dk_engine::Refusal;
 use dk_model::Text;
 use serde_json::{Map, Value};
 use std::alloc::{AllocError, Global};

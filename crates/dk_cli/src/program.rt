@@ -5,15 +5,16 @@ ghost use Rattle.dk_model.specs.State.{fold};
 ghost use Rattle.dk_model.specs.declared.action.Action.{Action};
 ghost use Rattle.dk_model.specs.declared.action.Protocol.{Protocol};
 ghost use Rattle.dk_model.specs.declared.action.Metadata.{Metadata};
+ghost use Rattle.dk_engine.specs.Held.{held};
+ghost use Rattle.dk_snapshot.specs.History.{IsLog};
 ghost use Rattle.dk_cli.specs.Show.{show, cut_of};
 ghost use Rattle.dk_cli.specs.Shown.{shown};
 ghost use Rattle.dk_cli.specs.Run.{IsShow, Answers, IsUnwritten};
-ghost use Rattle.dk_cli.specs.History.{IsLog, Shows};
+ghost use Rattle.dk_cli.specs.History.{Shows};
 
-use crate::engine::Engine;
-use crate::refusal::Refusal;
 use crate::show::show_text;
 use crate::status::Status;
+use dk_engine::{Engine, Refusal};
 use dk_store::{Failed, Sink, Source, Store, give_all};
 use std::alloc::Global;
 
@@ -44,13 +45,14 @@ fn show_command<O: Sink>(alloc: Global, engine: &mut Engine, out: &mut O, now: i
     ensures usage { result ≡ Status.Usage → ⊥ }
     ensures source { result ≡ Status.SourceFault → ⊥ }
     ensures sink { result ≡ Status.SinkFault → Rose (O.sink_faults out.old) (O.sink_faults out.new) }
-    ensures store { result ≡ Status.Refused Refusal.Store → Rose (store_faults engine.old.store) (store_faults engine.new.store) }
-    ensures same { told engine.new.store ≡ told engine.old.store }
-    ensures clashes { clashes engine.new.store ≡ clashes engine.old.store }
-    ensures store_later { store_faults engine.old.store ≤ store_faults engine.new.store }
+    ensures store { result ≡ Status.Refused Refusal.Store → Rose (store_faults (held engine.old.store)) (store_faults (held engine.new.store)) }
+    ensures same { told (held engine.new.store) ≡ told (held engine.old.store) }
+    ensures clashes { clashes (held engine.new.store) ≡ clashes (held engine.old.store) }
+    ensures limits { engine.new.limits ≡ engine.old.limits }
+    ensures store_later { store_faults (held engine.old.store) ≤ store_faults (held engine.new.store) }
     ensures sink_later { O.sink_faults out.old ≤ O.sink_faults out.new }
     ensures unwritten { IsUnwritten result (O.taken out.old) (O.taken out.new) }
-    ensures answer { IfSome (told engine.old.store) (λ events. Answers (show events (cut_of now)) (O.taken out.old) result (O.taken out.new)) }
+    ensures answer { IfSome (told (held engine.old.store)) (λ events. Answers (show events (cut_of now)) (O.taken out.old) result (O.taken out.new)) }
 {
     match show_text(alloc, engine, cut_at(now)) {
         Err(refusal) => Status::Refused(refusal),
@@ -82,20 +84,21 @@ pub fn run<I: Source, O: Sink>(
     ensures usage { (result ≡ Status.Usage) ↔ (IsShow words.now → ⊥) }
     ensures source { result ≡ Status.SourceFault → ⊥ }
     ensures sink { result ≡ Status.SinkFault → Rose (O.sink_faults out.old) (O.sink_faults out.new) }
-    ensures store { result ≡ Status.Refused Refusal.Store → Rose (store_faults engine.old.store) (store_faults engine.new.store) }
-    ensures answer { IsShow words.now → IfSome (told engine.old.store)
+    ensures store { result ≡ Status.Refused Refusal.Store → Rose (store_faults (held engine.old.store)) (store_faults (held engine.new.store)) }
+    ensures answer { IsShow words.now → IfSome (told (held engine.old.store))
         (λ events. Answers (show events (cut_of now)) (O.taken out.old) result (O.taken out.new)) }
-    ensures whole_log { IsShow words.now → IfSome (told engine.old.store)
+    ensures whole_log { IsShow words.now → IfSome (told (held engine.old.store))
         (λ events. (log : List (List Action)) (protocol : Protocol) (metadata : Metadata) → IsLog events log
         → (fold log).protocol ≡ Some protocol → (fold log).metadata ≡ Some metadata
-        → Shows (shown (length log - 1) protocol metadata (fold log) (cut_of now)) (O.taken out.old) result (O.taken out.new)) }
+        → Shows (shown (length log - 1) (fold log) (cut_of now)) (O.taken out.old) result (O.taken out.new)) }
 
     // What stays as it was, whatever the answer.
-    ensures same { told engine.new.store ≡ told engine.old.store }
-    ensures clashes { clashes engine.new.store ≡ clashes engine.old.store }
+    ensures same { told (held engine.new.store) ≡ told (held engine.old.store) }
+    ensures clashes { clashes (held engine.new.store) ≡ clashes (held engine.old.store) }
+    ensures limits { engine.new.limits ≡ engine.old.limits }
     ensures unread { input.new ≡ input.old }
     ensures unwritten { IsUnwritten result (O.taken out.old) (O.taken out.new) }
-    ensures store_later { store_faults engine.old.store ≤ store_faults engine.new.store }
+    ensures store_later { store_faults (held engine.old.store) ≤ store_faults (held engine.new.store) }
     ensures sink_later { O.sink_faults out.old ≤ O.sink_faults out.new }
 {
     if !is_show(words) {

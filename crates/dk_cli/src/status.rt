@@ -2,7 +2,7 @@
 ghost use Rattle.std.specs.Prelude.{◌≡◌};
 ghost use Rattle.dk_cli.specs.Status.{code_of};
 
-use crate::refusal::Refusal;
+use dk_engine::Refusal;
 
 /// How the program ended.
 #[derive(Drop, Debug)]

@@ -1,15 +1,12 @@
 //! The text of `show`.
-ghost use Rattle.std.specs.Prelude.{◌≡◌, ◌++◌, [], ◌∷◌, Some, Err, IfOk, OnOk, map, filter};
+ghost use Rattle.std.specs.Prelude.{◌≡◌, ◌++◌, [], ◌∷◌, IfOk, OnOk, map, filter};
 ghost use Rattle.std.specs.FinMap as maps;
+ghost use Rattle.std.specs.Option.{option_to_list};
 ghost use Rattle.dk_model.specs.Written.{text_of};
-ghost use Rattle.dk_cli.specs.Answers.{Gives};
-ghost use Rattle.dk_cli.specs.Show.{state_text};
 ghost use Rattle.dk_cli.specs.Shown.{snapshot_line, head_text, file_actions, is_unexpired, live, removal, shown};
 
-use crate::refusal::Refusal;
 use dk_actjson::{append_add, append_metadata, append_protocol, append_tombstone};
-use dk_model::{AddFile, Metadata, Protocol, TableState, Text, TextMap};
-use dk_paths::commit_path;
+use dk_model::{Action, AddFile, Metadata, Protocol, TableState, TextMap};
 use serde_json::{Map, Value};
 use std::alloc::{AllocError, Global};
 
@@ -73,19 +70,46 @@ fn append_tombstones(
     Ok(())
 }
 
+/// The line of the protocol, if there is one.
+fn append_if_protocol(
+    alloc: Global,
+    out: &mut Vec<u8>,
+    protocol: &Option<Protocol>,
+) -> Result<(), AllocError>
+    ensures { OnOk result (out.new.items ≡ out.old.items ++ text_of (map (λ p. Action.Protocol p) (option_to_list protocol.now))) }
+{
+    match protocol {
+        Some(protocol) => append_protocol(alloc, out, protocol),
+        None => Ok(()),
+    }
+}
+
+/// The line of the metadata, if there are any.
+fn append_if_metadata(
+    alloc: Global,
+    out: &mut Vec<u8>,
+    metadata: &Option<Metadata>,
+) -> Result<(), AllocError>
+    ensures { OnOk result (out.new.items ≡ out.old.items ++ text_of (map (λ m. Action.Metadata m) (option_to_list metadata.now))) }
+{
+    match metadata {
+        Some(metadata) => append_metadata(alloc, out, metadata),
+        None => Ok(()),
+    }
+}
+
 /// The lines of the version, its protocol and its metadata.
 fn append_head(
     alloc: Global,
     out: &mut Vec<u8>,
     version: u64,
-    protocol: &Protocol,
-    metadata: &Metadata,
+    state: &TableState,
 ) -> Result<(), AllocError>
-    ensures { OnOk result (out.new.items ≡ out.old.items ++ head_text version protocol.now metadata.now) }
+    ensures { OnOk result (out.new.items ≡ out.old.items ++ head_text version state.now) }
 {
     append_snapshot(alloc, out, version)?;
-    append_protocol(alloc, out, protocol)?;
-    append_metadata(alloc, out, metadata)?;
+    append_if_protocol(alloc, out, &state.protocol)?;
+    append_if_metadata(alloc, out, &state.metadata)?;
     Ok(())
 }
 
@@ -102,40 +126,17 @@ fn append_paths(
     append_tombstones(alloc, out, &state.tombstones, cut)
 }
 
-/// The text of a version whose state has this protocol and this metadata.
-fn text_with(
-    alloc: Global,
-    version: u64,
-    protocol: &Protocol,
-    metadata: &Metadata,
-    state: &TableState,
-    cut: i64,
-) -> Result<Vec<u8>, AllocError>
-    ensures { IfOk result (λ text. text.items ≡ shown version protocol.now metadata.now state.now cut) }
-{
-    let mut out = Vec::new(alloc);
-    append_head(alloc, &mut out, version, protocol, metadata)?;
-    append_paths(alloc, &mut out, state, cut)?;
-    Ok(out)
-}
-
 /// The text of a version by its state.
 pub(crate) fn shown_text(
     alloc: Global,
     version: u64,
     state: &TableState,
     cut: i64,
-) -> Result<Vec<u8>, Refusal>
-    ensures means { Gives (λ text. text.items) result (state_text version state.now cut) }
-    ensures store { result ≡ Err Refusal.Store → ⊥ }
+) -> Result<Vec<u8>, AllocError>
+    ensures { IfOk result (λ text. text.items ≡ shown version state.now cut) }
 {
-    match (&state.protocol, &state.metadata) {
-        (Some(protocol), Some(metadata)) => {
-            Ok(text_with(alloc, version, protocol, metadata, state, cut)?)
-        }
-        _ => Err(Refusal::Damaged {
-            path: Text::new(commit_path(alloc, 0)?),
-            place: 0,
-        }),
-    }
+    let mut out = Vec::new(alloc);
+    append_head(alloc, &mut out, version, state)?;
+    append_paths(alloc, &mut out, state, cut)?;
+    Ok(out)
 }

@@ -4,4 +4,4 @@ use Rattle.dk_cli.proofs.text.append_head.Goals as goal
 
 pub returns : goal.returns
 unfolding head_text
-returns c = three _ _ _ _ _ _ _ c.in_ok-append_snapshot.ensures c.in_ok-append_protocol.ensures c.in_ok-append_metadata.ensures
+returns c = three _ _ _ _ _ _ _ c.in_ok-append_snapshot.ensures c.in_ok-append_if_protocol.ensures c.in_ok-append_if_metadata.ensures

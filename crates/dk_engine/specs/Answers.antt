@@ -1,0 +1,22 @@
+-- What an answer owes to a meaning: a value, or the refusal whose cause the objects show.
+use Rattle.std.specs.Prelude.{◌≡◌, Result, Ok, Err}
+use Rattle.dk_store.specs.declared.event.StoreError.{StoreError}
+use Rattle.dk_store.specs.declared.event.StoreError.TheVariants as errors
+use Rattle.dk_engine.specs.declared.refusal.Refusal.{Refusal}
+use Rattle.dk_engine.specs.declared.refusal.Refusal.TheVariants as refusals
+
+abbrev pub refusal_of : StoreError → Refusal
+refusal_of errors.Failed = refusals.Store
+refusal_of errors.OutOfMemory = refusals.OutOfMemory
+
+-- The refusal is the meaning's. That of the store has its cause in the count of faults, and want of memory is free.
+abbrev pub Refuses : {Y : Type 0} → Refusal → Result Y Refusal → Type 0
+Refuses refusals.Store meant = Unit {0}
+Refuses refusals.OutOfMemory meant = Unit {0}
+Refuses (refusals.Missing path) meant = meant ≡ Err (refusals.Missing path)
+Refuses (refusals.Damaged path place) meant = meant ≡ Err (refusals.Damaged path place)
+
+-- what a call answered, seen by `view`, is what is meant
+abbrev pub Gives : {X Y : Type 0} → (X → Y) → Result X Refusal → Result Y Refusal → Type 0
+Gives view (Ok x) meant = meant ≡ Ok (view x)
+Gives view (Err refusal) meant = Refuses refusal meant

@@ -1,0 +1,12 @@
+//! What a table is at a version.
+
+use dk_model::TableState;
+
+/// What a table is at a version.
+#[derive(Drop)]
+pub struct Snapshot {
+    /// From 0 to 9,223,372,036,854,775,807.
+    pub version: u64,
+    /// The state after all commits up to that version. It has a protocol and metadata.
+    pub state: TableState,
+}
