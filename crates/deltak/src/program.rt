@@ -2,8 +2,10 @@
 
 use crate::early::Early;
 use crate::folder::Folder;
-use dk_cli::{Engine, fault_line, run};
+use dk_cli::{fault_line, run};
 use dk_dir::{StdSink, StdSource};
+use dk_engine::{Engine, Limits};
+use dk_handlers::SerdeJson;
 use std::alloc::AllocGlobal;
 use std::env;
 use std::io::Eprint;
@@ -51,6 +53,8 @@ fn carry_out(
     let store = Folder::reading(rt.clone()?, folder);
     let mut engine = Engine {
         store: Box::new(alloc, store)?,
+        json: Box::new(alloc, SerdeJson::new())?,
+        limits: Limits::usual(),
     };
     let mut input = StdSource::new(rt);
     let mut out = StdSink::new(rt.clone()?);

@@ -1,6 +1,8 @@
 //! `show` over stores in memory.
 
-use dk_cli::{Engine, fault_line, run};
+use dk_cli::{fault_line, run};
+use dk_engine::{Engine, Limits};
+use dk_handlers::SerdeJson;
 use dk_store::{Call, Fault, How, MemSink, MemSource, MemStore, Store, StoreError};
 use std::alloc::{AllocError, Global};
 use std::process::Abort;
@@ -218,6 +220,8 @@ fn try_case(
     store.plan(plan);
     let mut engine = Engine {
         store: Box::new(alloc, store)?,
+        json: Box::new(alloc, SerdeJson::new())?,
+        limits: Limits::usual(),
     };
     let mut input = MemSource::new(Vec::new(alloc), Vec::new(alloc));
     let mut out = MemSink::new(alloc, sink_fails);
