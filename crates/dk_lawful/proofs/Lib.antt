@@ -1,0 +1,10 @@
+pub mod Example
+pub mod Heads
+pub mod Lists
+pub mod OnTexts
+pub mod Puts
+pub mod Sound
+pub mod Standing
+pub mod Structure
+pub mod Unmanaged
+pub mod WholeLog

@@ -1,0 +1,10 @@
+pub mod Example
+pub mod Floor
+pub mod History
+pub mod Kept
+pub mod Laws
+pub mod Lawful
+pub mod Managed
+pub mod Permits
+pub mod Present
+pub mod Rules

@@ -1,0 +1,10 @@
+//! The law of a table's log: which events of a store are permitted after which, the one history that a log
+//! of permitted events means, and that nothing that is needed ever goes. All of it is said of events alone.
+#![tactic(auto)]
+
+mod laws;
+
+pub use laws::{
+    example_histories, example_is_lawful, forbidden_events, history_only_grows, log_is_the_history,
+    next_commit_is_added, permitted_one_by_one,
+};
