@@ -1,29 +1,32 @@
 -- The example is lawful, and the events beside it aren't.
-use Rattle.std.proofs.Common.{◌≡◌, ℕ, ℤ, pos, ◌<◌, ◌^◌, Bool, true, false, not, length, option_map, option_and_then, List, [], ◌∷◌, ◌++◌, Option, Some, None, codes, refl, sym, ap, subst, ◌∙◌, arith, true≢false}
+use Rattle.std.proofs.Common.{◌≡◌, ℕ, ℤ, pos, ◌<◌, ◌^◌, Bool, true, false, not, length, option_map, option_and_then, List, [], ◌∷◌, ◌++◌, Option, Some, None, codes, refl, sym, ap, subst, ◌∙◌, arith, true≢false, inl, inr}
 use Rattle.std.specs.Prelude.{IsNone, is_some, if◌then◌else◌}
 use Rattle.dk_model.specs.declared.action.Action.{Action}
 use Rattle.dk_model.specs.CommitText.{commit_of}
 use Rattle.dk_store.specs.Told.{Told, Stored, Made, Over, Deleted}
 use Rattle.dk_store.specs.Objects.{object, content}
 use Rattle.dk_paths.specs.Names.{commit_path}
-use Rattle.dk_paths.specs.Places.{Place, Commit_at, Staged, place_of, log_front, staged_front}
+use Rattle.dk_paths.specs.Places.{Place, Commit_at, Classic, Part, V2, Staged, place_of, log_front, staged_front}
 use Rattle.dk_paths.proofs.PlaceLaws.{place_of_path}
 use Rattle.dk_lawful.specs.History.{By_file, By_catalogue, RatifiedCommit, by_file, by_catalogue, history, state_of, longer, after_made, staged_commit, next_version, table}
 use Rattle.dk_lawful.specs.Managed.{is_catalog_managed, is_managed}
 use Rattle.dk_lawful.specs.Rules.{first_broken}
-use Rattle.dk_lawful.specs.Permits.{Permits, MayMake, AddsCommit}
+use Rattle.dk_lawful.specs.Permits.{Permits, MayMake, MayOver, MayDelete, AddsCommit}
+use Rattle.dk_lawful.specs.Present.{Holds, Complete}
+use Rattle.dk_store.specs.Standings.{standing}
 use Rattle.dk_lawful.specs.Lawful.{Lawful}
 use Rattle.dk_lawful.specs.Example.{first_text, first_actions, second_text, second_actions, listing_text, listing_actions, upgrading_text, upgrading_actions, shrinking_text, shrinking_actions, managed_text, managed_actions, staged_name_1, staging, ratifying, first_event, example, ExampleIsLawful, ExampleHistory, IsForbidden}
 use Rattle.dk_lawful.proofs.OnTexts.{commits_on_literals}
-use Rattle.dk_lawful.proofs.Standing.{commit_place, text_refl}
+use Rattle.dk_lawful.proofs.Standing.{commit_place, text_refl, found_made}
 use Rattle.dk_lawful.proofs.Structure.{longer_is}
-use Rattle.dk_lawful.proofs.Sound.{adds_itself, next_is_free}
+use Rattle.dk_lawful.proofs.SoundMade.{adds_itself}
+use Rattle.dk_lawful.proofs.Stays.{next_is_free}
 
 first_means : commit_of first_text ≡ Some first_actions
 unfolding commits_on_literals first_text
 first_means = refl
 
-second_means : commit_of second_text ≡ Some second_actions
+pub second_means : commit_of second_text ≡ Some second_actions
 unfolding commits_on_literals second_text
 second_means = refl
 
@@ -72,7 +75,7 @@ permitted : (events : List Told) (horizon : ℤ) (version : ℕ) (bytes : List �
     → Permits events (Made (commit_path version) bytes stamp) horizon
 permitted events horizon version bytes stamp small lawful may = (
   next_is_free events horizon version lawful may.2.next small,
-  subst (λ (place : Place). MayMake events place bytes horizon) (sym (commit_place version small)) may,
+  subst (λ (place : Place). MayMake events place bytes horizon) (sym (commit_place version small)) (inl may),
 )
 
 first_is_lawful : (horizon : ℤ) → Lawful (first_event ∷ []) horizon
@@ -88,19 +91,25 @@ example_history =
     adds_itself (first_event ∷ []) (commit_path 1) second_text (pos 1) 1 (commit_place 1 (omega arith)) second_adds
     ∙ ap (λ l. l ++ by_file second_actions ∷ []) first_history
 
--- what a permitted commit has
-may_add : (events : List Told) (horizon : ℤ) (version : ℕ) (bytes : List ℕ) (stamp : ℤ) → version < 2 ^ 63
+-- what a permitted commit has, where nothing stands ratified
+may_add : (events : List Told) (horizon : ℤ) (version : ℕ) (bytes : List ℕ) (stamp : ℤ) → version < 2 ^ 63 → standing events version ≡ None
     → Permits events (Made (commit_path version) bytes stamp) horizon → AddsCommit events version bytes
-may_add events horizon version bytes stamp small may = subst (λ (place : Place). MayMake events place bytes horizon) (commit_place version small) may.1
+may_add events horizon version bytes stamp small none may = elim (at_place may.1) [
+  | inl adds ↦ adds
+  | inr fills ↦ absurd (let no : ◌≡◌ {A = Option (List ℕ)} None (Some fills.name) = sym none ∙ fills.stands in cc)
+]
+  where
+    at_place : MayMake events (place_of (commit_path version)) bytes horizon → MayMake events (Commit_at version) bytes horizon
+    at_place may = subst (λ (place : Place). MayMake events place bytes horizon) (commit_place version small) may
 
-example_next : next_version example ≡ 2
+pub example_next : next_version example ≡ 2
 example_next = ap length example_history
 
 pub gap : IsForbidden example (Made (commit_path 3) second_text (pos 2))
-gap horizon may = let next = (may_add example horizon 3 second_text (pos 2) (omega arith) may).2.next in let is = example_next in omega arith
+gap horizon may = let next = (may_add example horizon 3 second_text (pos 2) (omega arith) refl may).2.next in let is = example_next in omega arith
 
 pub again : IsForbidden example (Made (commit_path 1) second_text (pos 2))
-again horizon may = let next = (may_add example horizon 1 second_text (pos 2) (omega arith) may).2.next in let is = example_next in omega arith
+again horizon may = let next = (may_add example horizon 1 second_text (pos 2) (omega arith) refl may).2.next in let is = example_next in omega arith
 
 taken_by : (path bytes : List ℕ) (stamp : ℤ) (events : List Told) → IsNone (object (Over path bytes stamp ∷ events) path) → ⊥
 taken_by path bytes stamp events none =
@@ -115,7 +124,7 @@ unreadable_text = refl
 
 pub unreadable : IsForbidden example (Made (commit_path 2) (codes "{") (pos 2))
 unreadable horizon may =
-    let add = may_add example horizon 2 (codes "{") (pos 2) (omega arith) may in
+    let add = may_add example horizon 2 (codes "{") (pos 2) (omega arith) refl may in
     none_is_none (codes "{") add.0 unreadable_text add.1
 
 -- a commit that breaks a rule after this history
@@ -133,7 +142,7 @@ twice_means = refl
 
 pub no_protocol : IsForbidden [] (Made (commit_path 0) second_text (pos 0))
 no_protocol horizon may =
-    broken [] [] 0 1 second_text second_actions refl refl second_means (may_add [] horizon 0 second_text (pos 0) (omega arith) may)
+    broken [] [] 0 1 second_text second_actions refl refl second_means (may_add [] horizon 0 second_text (pos 0) (omega arith) refl may)
 
 listing_means : commit_of listing_text ≡ Some listing_actions
 unfolding commits_on_literals listing_text
@@ -151,7 +160,7 @@ shrinking_means = refl
 breaks : (rule : ℕ) (bytes : List ℕ) (actions : List Action) → first_broken (state_of (by_file first_actions ∷ by_file second_actions ∷ [])) 2 actions ≡ Some rule
     → commit_of bytes ≡ Some actions → IsForbidden example (Made (commit_path 2) bytes (pos 2))
 breaks rule bytes actions is means horizon may =
-    broken example (by_file first_actions ∷ by_file second_actions ∷ []) 2 rule bytes actions example_history is means (may_add example horizon 2 bytes (pos 2) (omega arith) may)
+    broken example (by_file first_actions ∷ by_file second_actions ∷ []) 2 rule bytes actions example_history is means (may_add example horizon 2 bytes (pos 2) (omega arith) refl may)
 
 pub path_twice : IsForbidden example (Made (commit_path 2) (second_text ++ second_text) (pos 2))
 path_twice = breaks 3 (second_text ++ second_text) (second_actions ++ second_actions) refl twice_means
@@ -167,15 +176,36 @@ size = breaks 11 shrinking_text shrinking_actions refl shrinking_means
 
 pub managed : IsForbidden (Made (commit_path 0) managed_text (pos 0) ∷ []) (Made (commit_path 1) second_text (pos 1))
 managed horizon may =
-    let add = may_add (Made (commit_path 0) managed_text (pos 0) ∷ []) horizon 1 second_text (pos 1) (omega arith) may in
+    let add = may_add (Made (commit_path 0) managed_text (pos 0) ∷ []) horizon 1 second_text (pos 1) (omega arith) refl may in
     let is = history_one managed_text managed_actions managed_means in
     true≢false (sym is_managed_then ∙ ap (λ l. is_managed (state_of l)) (sym is) ∙ add.2.by_file)
 
 pub over : IsForbidden example (Over (commit_path 1) second_text (pos 2))
-over horizon may = may
+over horizon may = subst MayOver (commit_place 1 (omega arith)) may
+
+-- nothing but commits stands in the example, so that no checkpoint is complete
+pub only_commits : (place : Place) (held : List ℕ) → Holds example place held → (version : ℕ) × (Commit_at version ≡ place)
+only_commits place held holds = elim (found_made (first_event ∷ []) (commit_path 1) second_text (pos 1) place held holds) [
+  | inl (at, is) ↦ (1, sym (commit_place 1 (omega arith)) ∙ at)
+  | inr before ↦ elim (found_made [] (commit_path 0) first_text (pos 0) place held before) [
+    | inl (at, is) ↦ (0, sym (commit_place 0 (omega arith)) ∙ at)
+    | inr none ↦ absurd (let no : ◌≡◌ {A = Option (List ℕ)} None (Some held) = none.has_bytes in cc)
+  ]
+]
+
+none_complete : (version : ℕ) → Complete example version → ⊥
+none_complete version (inl (held, holds)) = let only = only_commits (Classic version) held holds in let no : Commit_at only.0 ≡ Classic version = only.1 in cc
+none_complete version (inr (inl (id, (json, (held, holds))))) =
+    let only = only_commits (V2 version id json) held holds in let no : Commit_at only.0 ≡ V2 version id json = only.1 in cc
+none_complete version (inr (inr (parts, some, all))) =
+    let one = all 1 (omega arith) some in
+    let only = only_commits (Part version 1 parts) one.0 one.1 in let no : Commit_at only.0 ≡ Part version 1 parts = only.1 in cc
 
 pub deleted : IsForbidden example (Deleted (commit_path 0))
-deleted horizon may = may
+deleted horizon may =
+    let at_place : MayDelete example (Commit_at 0) = subst (MayDelete example) (commit_place 0 (omega arith)) may in
+    let above = at_place.0 in
+    none_complete above.0 above.2
 
 -- what doesn't add
 added_none : (events : List Told) (h : List RatifiedCommit) (version : ℕ) (bytes : List ℕ) (stamp : ℤ) → version < 2 ^ 63 → history events ≡ h

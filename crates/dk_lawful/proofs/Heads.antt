@@ -1,5 +1,5 @@
 -- From version 0 on a table has a protocol and metadata: the first commit brings both, and nothing takes them away.
-use Rattle.std.proofs.Common.{◌≡◌, ℕ, zero, suc, ◌+◌, ◌<◌, ◌≤◌, Bool, true, false, not, inl, inr, length, take, List, [], ◌∷◌, ◌++◌, Option, Some, None, IsSome, if◌then◌else◌, refl, sym, ap, subst, ◌∙◌, arith, length-append, filter_map}
+use Rattle.std.proofs.Common.{◌≡◌, ℕ, zero, suc, ◌+◌, ◌<◌, ◌≤◌, true, inl, inr, length, take, List, [], ◌∷◌, ◌++◌, IsSome, refl, sym, ap, subst, ◌∙◌, arith, length-append, filter_map}
 use Rattle.std.proofs.lemmas.Bool.{and_parts, eqb-true, cases_lt}
 use Rattle.std.proofs.lemmas.List.{take-append-le, map-append}
 use Rattle.std.proofs.Math.Seq.{take-length}
@@ -7,11 +7,10 @@ use Rattle.dk_model.specs.declared.action.Action.{Action}
 use Rattle.dk_model.specs.declared.action.Action.TheVariants as action
 use Rattle.dk_model.specs.declared.state.TableState.{TableState}
 use Rattle.dk_model.specs.State.{step, steps, steps_of_all, fold, empty_state}
-use Rattle.dk_store.specs.Told.{Told}
-use Rattle.dk_lawful.specs.History.{RatifiedCommit, history, commits_of, state_of, HasHeads}
+use Rattle.dk_lawful.specs.History.{RatifiedCommit, commits_of, state_of, HasHeads}
 use Rattle.dk_lawful.specs.Rules.{protocol_in, metadata_in, keeps_heads, IsValidNext}
-use Rattle.dk_lawful.specs.Laws.{TableIsWhole}
-use Rattle.dk_lawful.proofs.Sound.{GoesOnValidly, goes_on_validly, length_commits}
+use Rattle.dk_lawful.proofs.Management.{kept}
+use Rattle.dk_lawful.proofs.Sound.{length_commits}
 
 step_protocol : (s : TableState) (a : Action) → IsSome s.protocol → IsSome (step s a).protocol
 step_protocol s (action.Protocol p) some = refl
@@ -38,14 +37,6 @@ brings_metadata : (s : TableState) (actions : List Action) → 1 ≤ length (fil
 brings_metadata s [] some = absurd (omega arith)
 brings_metadata s (action.Metadata m ∷ rest) some = steps_metadata (step s (action.Metadata m)) rest refl
 brings_metadata s (a ∷ rest) some = brings_metadata (step s a) rest some
-
--- the first test of a row of tests was passed, if no rule is broken
-passed : (kept : Bool) (rule : ℕ) (rest : Option ℕ) → (if not kept then Some rule else rest) ≡ None → kept ≡ true
-passed true rule rest none = refl
-passed false rule rest none = absurd (let no : ◌≡◌ {A = Option ℕ} (Some rule) None = none in cc)
-
-kept_heads : (before : TableState) (version : ℕ) (actions : List Action) → IsValidNext before version actions → keeps_heads version actions ≡ true
-kept_heads before version actions valid = passed (keeps_heads version actions) 1 _ valid
 
 heads_step : (s : TableState) (actions : List Action) → HasHeads s → HasHeads (steps s actions)
 heads_step s actions heads = record { protocol = steps_protocol s actions heads.protocol; metadata = steps_metadata s actions heads.metadata }
@@ -75,7 +66,7 @@ whole_now h all count is =
     let whole : take (count + 1) (commits_of h) ≡ commits_of h = ap (λ n. take n (commits_of h)) (let e : count + 1 ≡ length (commits_of h) = omega arith in e) ∙ take-length (commits_of h) in
     subst (λ cs. HasHeads (fold cs)) whole (all count (omega arith))
 
-one_more : (h : List RatifiedCommit) (commit : RatifiedCommit) → AllWhole h → IsValidNext (state_of h) (length h) commit.actions → AllWhole (h ++ commit ∷ [])
+pub one_more : (h : List RatifiedCommit) (commit : RatifiedCommit) → AllWhole h → IsValidNext (state_of h) (length h) commit.actions → AllWhole (h ++ commit ∷ [])
 one_more h commit all valid version below = elim (cases_lt version (length h)) [
   | inl less ↦
       let front : take (version + 1) (commits_of (h ++ commit ∷ [])) ≡ take (version + 1) (commits_of h) =
@@ -92,13 +83,5 @@ one_more h commit all valid version below = elim (cases_lt version (length h)) [
 ]
   where
     at : (count : ℕ) → length h ≡ count → HasHeads (steps (state_of h) commit.actions)
-    at zero is = begins (state_of h) commit.actions (ap (λ v. keeps_heads v commit.actions) (sym is) ∙ kept_heads (state_of h) (length h) commit.actions valid)
+    at zero is = begins (state_of h) commit.actions (ap (λ v. keeps_heads v commit.actions) (sym is) ∙ (kept (state_of h) (length h) commit.actions valid).heads)
     at (suc count) is = heads_step (state_of h) commit.actions (whole_now h all count is)
-
-goes_on_whole : (event : Told) (events : List Told) → AllWhole (history events) → GoesOnValidly events event → AllWhole (history (event ∷ events))
-goes_on_whole event events all (inl same) = subst AllWhole (sym same) all
-goes_on_whole event events all (inr more) = subst AllWhole (sym more.1) (one_more (history events) more.0 all more.2)
-
-pub table_is_whole : TableIsWhole
-table_is_whole [] horizon lawful = λ version below. absurd (omega arith)
-table_is_whole (event ∷ events) horizon lawful = goes_on_whole event events (table_is_whole events horizon lawful.1) (goes_on_validly events event horizon lawful.0)

@@ -26,3 +26,8 @@ same_elements [] [] same = refl
 same_elements [] (y ∷ ys) same = absurd (let no : ◌≡◌ {A = Option _} None (Some y) = same 0 in cc)
 same_elements (x ∷ xs) [] same = absurd (let no : ◌≡◌ {A = Option _} (Some x) None = same 0 in cc)
 same_elements (x ∷ xs) (y ∷ ys) same = let head : ◌≡◌ {A = Option _} (Some x) (Some y) = same 0 in let heads : x ≡ y = cc in ap₂ (λ z zs. z ∷ zs) heads (same_elements xs ys (λ i. same (suc i)))
+
+pub slice_get-before : {X : Type 0} (xs ys : List X) (i : ℕ) → i < length xs → slice_get (xs ++ ys) i ≡ slice_get xs i
+slice_get-before [] ys i below = absurd (omega arith)
+slice_get-before (x ∷ xs) ys zero below = refl
+slice_get-before (x ∷ xs) ys (suc i) below = slice_get-before xs ys i (omega arith)

@@ -19,7 +19,7 @@ use Rattle.dk_lawful.specs.Kept.{IfBoth, StaysLawful, KeepsLawful, HistoryAfterP
 use Rattle.dk_lawful.specs.Laws.{PutKeepsLawful, PutAddsCommit, PutLeavesFloor, TakenAddsNothing}
 use Rattle.dk_lawful.specs.Floor.{FromFloor}
 use Rattle.dk_lawful.proofs.Standing.{commit_place}
-use Rattle.dk_lawful.proofs.Sound.{adds_itself}
+use Rattle.dk_lawful.proofs.SoundMade.{adds_itself}
 
 -- where the commit may come next on a lawful log
 abbrev pub ComesNext : ℕ → List Action → List Told → Type 0
@@ -35,7 +35,7 @@ module _ (version : ℕ) (bytes : List ℕ) (actions : List Action) (small : ver
     newer = Made (commit_path version) bytes stamp ∷ [];
     is = is;
     lawful = λ horizon lawful. subst (λ es. Lawful es horizon) (sym is)
-        ((free, subst (λ (place : Place). MayMake events place bytes horizon) (sym (commit_place version small)) (actions, means, next horizon lawful)), lawful);
+        ((free, subst (λ (place : Place). MayMake events place bytes horizon) (sym (commit_place version small)) (inl (actions, means, next horizon lawful))), lawful);
   }
 
   one_more : (events later : List Told) (stamp horizon : ℤ) → ComesNext version actions events → later ≡ Made (commit_path version) bytes stamp ∷ events

@@ -1,12 +1,17 @@
 -- Laws of lawful lists and of the history that follow from their shape alone.
-use Rattle.std.proofs.Common.{◌≡◌, ℕ, ◌+◌, ◌≤◌, ℤ, Bool, true, false, ◌&&◌, length, List, [], ◌∷◌, ◌++◌, Option, Some, None, slice_get, refl, sym, ap, ◌∙◌, append_assoc, append-nil, arith, length-append, if◌then◌else◌}
+use Rattle.std.proofs.Common.{◌≡◌, ℕ, ◌+◌, ◌≤◌, ℤ, ◌≤ℤ◌, Bool, true, false, ◌&&◌, length, List, [], ◌∷◌, ◌++◌, Option, Some, None, slice_get, refl, sym, ap, ◌∙◌, append_assoc, append-nil, arith, length-append, if◌then◌else◌}
 use Rattle.std.specs.Prelude.{◌==◌}
 use Rattle.dk_model.specs.declared.action.Action.{Action}
+use Rattle.std.proofs.lemmas.Int.{ints}
+use Rattle.dk_model.specs.declared.state.TableState.{TableState}
+use Rattle.dk_model.specs.State.{steps, empty_state}
 use Rattle.dk_model.specs.CommitText.{commit_of}
 use Rattle.dk_store.specs.Told.{Told, Made, Over, Deleted, Ratified, Forgotten}
 use Rattle.dk_paths.specs.Places.{Place, Commit_at, Classic, Part, V2, Compacted, Hint, Sidecar, Staged, Other, place_of}
-use Rattle.dk_lawful.specs.History.{Way, By_file, By_catalogue, RatifiedCommit, goes_on_by, state_of, longer, after_made, staged_commit, history}
-use Rattle.dk_lawful.specs.Permits.{Permits, MayMake}
+use Rattle.dk_lawful.specs.History.{Way, By_file, By_catalogue, RatifiedCommit, goes_on_by, state_of, longer, after_made, staged_commit, history, table_at}
+use Rattle.dk_lawful.specs.Permits.{Permits, MayMake, MakesTop}
+use Rattle.dk_lawful.specs.Agree.{Agree}
+use Rattle.dk_lawful.specs.Checkpoints.{IsShare-beyond}
 use Rattle.dk_lawful.specs.Laws.{PrefixesAreLawful, GreaterHorizonIsLawful, HistoryGrows, OneAtATime, CommitsStay}
 use Rattle.dk_lawful.proofs.Lists.{slice_get-append}
 
@@ -14,28 +19,49 @@ pub prefixes_are_lawful : PrefixesAreLawful
 prefixes_are_lawful [] events horizon lawful = lawful
 prefixes_are_lawful (event ∷ newer) events horizon lawful = prefixes_are_lawful newer events horizon lawful.1
 
-may_make_beyond : (events : List Told) (place : Place) (bytes : List ℕ) (horizon greater : ℤ) → MayMake events place bytes horizon → MayMake events place bytes greater
-may_make_beyond events (Commit_at version) bytes horizon greater may = may
-may_make_beyond events (Classic version) bytes horizon greater may = may
-may_make_beyond events (Part version part parts) bytes horizon greater may = may
-may_make_beyond events (V2 version id json) bytes horizon greater may = may
-may_make_beyond events (Compacted first last) bytes horizon greater may = may
-may_make_beyond events Hint bytes horizon greater may = may
-may_make_beyond events (Sidecar name) bytes horizon greater may = may
-may_make_beyond events (Staged version id) bytes horizon greater may = may
-may_make_beyond events (Other path) bytes horizon greater may = may
+agrees_beyond : (state whole : TableState) (horizon greater : ℤ) → horizon ≤ℤ greater → Agree state whole horizon → Agree state whole greater
+agrees_beyond state whole horizon greater up agree = record {
+  protocol = agree.protocol;
+  metadata = agree.metadata;
+  files = agree.files;
+  none_more = agree.none_more;
+  unexpired = λ path time is above. agree.unexpired path time is (omega (arith, ints));
+}
 
-permitted_beyond : (events : List Told) (event : Told) (horizon greater : ℤ) → Permits events event horizon → Permits events event greater
-permitted_beyond events (Made path bytes stamp) horizon greater may = (may.0, may_make_beyond events (place_of path) bytes horizon greater may.1)
-permitted_beyond events (Over path bytes stamp) horizon greater may = may
-permitted_beyond events (Deleted path) horizon greater may = may
-permitted_beyond events (Ratified version name) horizon greater may = may
-permitted_beyond events (Forgotten upto) horizon greater may = may
+top_beyond : (events : List Told) (place : Place) (version : ℕ) (bytes : List ℕ) (horizon greater : ℤ) → horizon ≤ℤ greater
+    → MakesTop events place version bytes horizon → MakesTop events place version bytes greater
+top_beyond events place version bytes horizon greater up makes = record {
+  published = makes.published;
+  top = makes.top;
+  means = makes.means;
+  sides = makes.sides;
+  sides_mean = makes.sides_mean;
+  stands = agrees_beyond (steps empty_state (makes.top.actions ++ makes.sides)) (table_at events version) horizon greater up makes.stands;
+}
+
+may_make_beyond : (events : List Told) (place : Place) (bytes : List ℕ) (horizon greater : ℤ) → horizon ≤ℤ greater → MayMake events place bytes horizon → MayMake events place bytes greater
+may_make_beyond events (Commit_at version) bytes horizon greater up may = may
+may_make_beyond events (Classic version) bytes horizon greater up may = top_beyond events (Classic version) version bytes horizon greater up may
+may_make_beyond events (V2 version id json) bytes horizon greater up may = top_beyond events (V2 version id json) version bytes horizon greater up may
+may_make_beyond events (Part version part parts) bytes horizon greater up may =
+    record { published = may.published; share = IsShare-beyond bytes (table_at events version) part parts horizon greater up may.share }
+may_make_beyond events (Compacted first last) bytes horizon greater up may = may
+may_make_beyond events Hint bytes horizon greater up may = may
+may_make_beyond events (Sidecar name) bytes horizon greater up may = may
+may_make_beyond events (Staged version id) bytes horizon greater up may = may
+may_make_beyond events (Other path) bytes horizon greater up may = may
+
+permitted_beyond : (events : List Told) (event : Told) (horizon greater : ℤ) → horizon ≤ℤ greater → Permits events event horizon → Permits events event greater
+permitted_beyond events (Made path bytes stamp) horizon greater up may = (may.0, may_make_beyond events (place_of path) bytes horizon greater up may.1)
+permitted_beyond events (Over path bytes stamp) horizon greater up may = may
+permitted_beyond events (Deleted path) horizon greater up may = may
+permitted_beyond events (Ratified version name) horizon greater up may = may
+permitted_beyond events (Forgotten upto) horizon greater up may = may
 
 pub greater_horizon_is_lawful : GreaterHorizonIsLawful
 greater_horizon_is_lawful [] horizon greater up lawful = lawful
 greater_horizon_is_lawful (event ∷ events) horizon greater up lawful =
-    (permitted_beyond events event horizon greater lawful.0, greater_horizon_is_lawful events horizon greater up lawful.1)
+    (permitted_beyond events event horizon greater up lawful.0, greater_horizon_is_lawful events horizon greater up lawful.1)
 
 -- a history that is the old one, or has one commit more
 pub record GrowsByOne (old new : List RatifiedCommit) : Type 0 where

@@ -5,18 +5,18 @@ use Rattle.dk_paths.specs.Places.{Place, Commit_at, Classic, Part, V2, Compacted
 use Rattle.dk_lawful.specs.Present.{Complete}
 
 -- a complete checkpoint above a version, and one from a version on, each of at most `limit`
-abbrev pub HasAbove : List Told → ℕ → ℕ → Type 0
-HasAbove events version limit = (checkpoint : ℕ) × (version < checkpoint) × (checkpoint ≤ limit) × Complete events checkpoint
+abbrev pub HasBetween : List Told → ℕ → ℕ → Type 0
+HasBetween events version limit = (checkpoint : ℕ) × (version < checkpoint) × (checkpoint ≤ limit) × Complete events checkpoint
 
 abbrev pub HasFrom : List Told → ℕ → ℕ → Type 0
 HasFrom events version limit = (checkpoint : ℕ) × (version ≤ checkpoint) × (checkpoint ≤ limit) × Complete events checkpoint
 
 -- an object of this place is needed by no version from `limit` on
 abbrev pub IsBelow : List Told → Place → ℕ → Type 0
-IsBelow events (Commit_at version) limit = HasAbove events version limit
-IsBelow events (Classic version) limit = HasAbove events version limit
-IsBelow events (Part version part parts) limit = HasAbove events version limit
-IsBelow events (V2 version id json) limit = HasAbove events version limit
+IsBelow events (Commit_at version) limit = HasBetween events version limit
+IsBelow events (Classic version) limit = HasBetween events version limit
+IsBelow events (Part version part parts) limit = HasBetween events version limit
+IsBelow events (V2 version id json) limit = HasBetween events version limit
 IsBelow events (Compacted first last) limit = HasFrom events first limit
 IsBelow events _ limit = Unit {0}
 

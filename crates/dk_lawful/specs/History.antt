@@ -1,13 +1,13 @@
 -- The history that a list of events means: the ratified commits, oldest first, each with the way by which it came
 -- (Delta Lake's PROTOCOL.md, "Delta Log Entries", "Catalog-managed tables").
-use Rattle.std.specs.Prelude.{ℕ, Bool, not, ◌==◌, ◌&&◌, List, [], ◌∷◌, ◌++◌, Option, Some, None, IsSome, map, length, option_and_then, if◌then◌else◌}
+use Rattle.std.specs.Prelude.{ℕ, Bool, not, ◌==◌, ◌&&◌, List, [], ◌∷◌, ◌++◌, Option, Some, None, IsSome, map, length, take, ◌+◌, option_and_then, if◌then◌else◌}
 use Rattle.dk_model.specs.declared.action.Action.{Action}
 use Rattle.dk_model.specs.declared.state.TableState.{TableState}
 use Rattle.dk_model.specs.CommitText.{commit_of}
 use Rattle.dk_model.specs.State.{fold}
 use Rattle.dk_store.specs.Told.{Told, Made, Over, Deleted, Ratified, Forgotten}
-use Rattle.dk_store.specs.Objects.{content}
-use Rattle.dk_paths.specs.Places.{Place, Commit_at, place_of, log_front, staged_front}
+use Rattle.dk_paths.specs.Places.{Place, Commit_at, place_of}
+use Rattle.dk_lawful.specs.Present.{staged_bytes}
 use Rattle.dk_lawful.specs.Managed.{is_managed}
 
 -- as an object of its own at the version's path, or staged and then ratified by the catalogue
@@ -50,7 +50,7 @@ after_made history _ bytes = history
 
 -- what the staged object of a name means by now
 abbrev pub staged_commit : List Told → List ℕ → Option (List Action)
-staged_commit events name = option_and_then commit_of (content events (log_front ++ (staged_front ++ name)))
+staged_commit events name = option_and_then commit_of (staged_bytes events name)
 
 -- A made object of the next version's path adds its commit, by file, and a ratification of the next version adds the commit
 -- of the staged object that it names. Nothing else adds, and nothing takes away.
@@ -68,6 +68,13 @@ table events = state_of (history events)
 
 abbrev pub next_version : List Told → ℕ
 next_version events = length (history events)
+
+-- the state at a version, and the state before it
+abbrev pub table_at : List Told → ℕ → TableState
+table_at events version = fold (take (version + 1) (commits_of (history events)))
+
+abbrev pub table_before : List Told → ℕ → TableState
+table_before events version = fold (take version (commits_of (history events)))
 
 -- a state of a table that has begun
 pub record HasHeads (state : TableState) : Type 0 where

@@ -1,23 +1,26 @@
 -- The laws of the log, as statements. A list of events has the newest first, so what was before is its end.
-use Rattle.std.specs.Prelude.{◌≡◌, true, false, ℕ, ℤ, ◌+◌, ◌^◌, ◌<◌, ◌≤◌, ◌≤ℤ◌, List, ◌∷◌, ◌++◌, Option, Some, None, Result, IfSome, IsSome, IsNone, length, take, option_and_then, slice_get}
+use Rattle.std.specs.Prelude.{◌≡◌, true, false, ℕ, ℤ, ◌+◌, ◌^◌, ◌<◌, ◌≤◌, ◌≤ℤ◌, ◌⊎◌, List, ◌∷◌, ◌++◌, Option, Some, None, Result, IfSome, IsSome, IsNone, length, take, option_and_then, slice_get}
 use Rattle.dk_model.specs.declared.action.Action.{Action}
 use Rattle.dk_model.specs.declared.state.TableState.{TableState}
 use Rattle.dk_model.specs.CommitText.{commit_of}
-use Rattle.dk_model.specs.State.{fold}
+use Rattle.dk_model.specs.State.{fold, steps}
 use Rattle.dk_store.specs.declared.event.Put.{Put}
 use Rattle.dk_store.specs.declared.event.StoreError.{StoreError}
 use Rattle.dk_store.specs.Told.{Told}
 use Rattle.dk_store.specs.Objects.{object, content}
-use Rattle.dk_store.specs.Writing.{PutsNew}
+use Rattle.dk_store.specs.Writing.{PutsNew, MayRatify}
 use Rattle.dk_paths.specs.Names.{commit_path}
-use Rattle.dk_paths.specs.Places.{Commit_at}
-use Rattle.dk_lawful.specs.Present.{Present, IsLastPublished, versions_up_to}
-use Rattle.dk_lawful.specs.History.{RatifiedCommit, history, next_version, commits_of, HasHeads}
+use Rattle.dk_paths.specs.Places.{Place, Commit_at, Sidecar, Staged}
+use Rattle.dk_paths.specs.Staged.{staged_name}
+use Rattle.dk_store.specs.Standings.{standing, next_ratified}
+use Rattle.dk_lawful.specs.Present.{Holds, Present, IsLastPublished, versions_up_to, AtMostPublished, IsStaged, Available, Complete, HasAbove}
+use Rattle.dk_lawful.specs.History.{RatifiedCommit, history, next_version, commits_of, table, table_before, goes_on_by, HasHeads}
 use Rattle.dk_lawful.specs.Permits.{IsNextCommit}
 use Rattle.dk_lawful.specs.Lawful.{Lawful}
-use Rattle.dk_lawful.specs.Floor.{FromFloor}
+use Rattle.dk_lawful.specs.Floor.{FromFloor, HasBetween}
+use Rattle.dk_lawful.specs.Checkpoints.{Names}
 use Rattle.dk_lawful.specs.Managed.{is_managed}
-use Rattle.dk_lawful.specs.Rules.{is_written}
+use Rattle.dk_lawful.specs.Rules.{is_written, IsValidNext}
 use Rattle.dk_lawful.specs.Kept.{IfBoth, KeepsLawful, HistoryAfterPut}
 
 -- what was before is lawful, so the log is lawful after each single event
@@ -40,15 +43,21 @@ abbrev pub CommitsStay : Type 0
 CommitsStay = (newer events : List Told) (version : ℕ) (commit : RatifiedCommit)
     → slice_get (history events) version ≡ Some commit → slice_get (history (newer ++ events)) version ≡ Some commit
 
+-- each commit came by the way by which the table went on before it
+abbrev pub EachCameItsWay : Type 0
+EachCameItsWay = (events : List Told) (version : ℕ) (commit : RatifiedCommit) → slice_get (history events) version ≡ Some commit
+    → goes_on_by commit.way (table_before events version) ≡ true
+
 -- These are the commits that stand in the log, from version 0 on: each at its path and with this meaning, and none from the end of the list on.
 pub record IsWholeLog (events : List Told) (log : List (List Action)) : Type 0 where
   pub small : length log ≤ 2 ^ 63
   pub each : (version : ℕ) → version < length log → option_and_then commit_of (content events (commit_path version)) ≡ slice_get log version
   pub last : (version : ℕ) → length log ≤ version → version < 2 ^ 63 → content events (commit_path version) ≡ None
 
--- the log shows the history and nothing else
+-- while nothing that is needed was deleted, the log of a table that isn't managed shows the history and nothing else
 abbrev pub LogShowsHistory : Type 0
-LogShowsHistory = (events : List Told) (horizon : ℤ) → Lawful events horizon → IsWholeLog events (commits_of (history events))
+LogShowsHistory = (events : List Told) (horizon : ℤ) → Lawful events horizon → FromFloor events 0 → is_managed (table events) ≡ false
+    → IsWholeLog events (commits_of (history events))
 
 -- whoever reads a log as a whole reads one and the same
 abbrev pub WholeLogIsOne : Type 0
@@ -59,18 +68,79 @@ abbrev pub TableIsWhole : Type 0
 TableIsWhole = (events : List Told) (horizon : ℤ) → Lawful events horizon → (version : ℕ) → version < next_version events
     → HasHeads (fold (take (version + 1) (commits_of (history events))))
 
--- a commit that stands in the log is that of the history
+-- a commit that stands in the log means what the history has at its version
 abbrev pub StandingCommitIsHistory : Type 0
-StandingCommitIsHistory = (events : List Told) (horizon : ℤ) → Lawful events horizon → (version : ℕ) → Present events (Commit_at version) → version < next_version events
+StandingCommitIsHistory = (events : List Told) (horizon : ℤ) → Lawful events horizon → (version : ℕ) (bytes : List ℕ) → Holds events (Commit_at version) bytes
+    → commit_of bytes ≡ slice_get (commits_of (history events)) version
 
--- the last version of the history is the last published one
+-- so does the staged commit of a version that stands ratified
+abbrev pub StagedCommitIsHistory : Type 0
+StagedCommitIsHistory = (events : List Told) (horizon : ℤ) → Lawful events horizon → (version id : ℕ) (bytes : List ℕ)
+    → standing events version ≡ Some (staged_name version id) → Holds events (Staged version id) bytes → commit_of bytes ≡ slice_get (commits_of (history events)) version
+
+-- the last version of the history can be read, and none beyond it
+abbrev pub LastIsAvailable : Type 0
+LastIsAvailable = (events : List Told) (horizon : ℤ) → Lawful events horizon → (version : ℕ) → version + 1 ≡ next_version events → Available events version
+
+abbrev pub NoneBeyondLast : Type 0
+NoneBeyondLast = (events : List Told) (horizon : ℤ) → Lawful events horizon → (version : ℕ) → Available events version → version < next_version events
+
+-- of a table that isn't managed the last version of the history is the last published one
 abbrev pub LastIsPublished : Type 0
-LastIsPublished = (events : List Told) (horizon : ℤ) → Lawful events horizon → (last : Option ℕ) → IsLastPublished events last
+LastIsPublished = (events : List Told) (horizon : ℤ) → Lawful events horizon → is_managed (table events) ≡ false → (last : Option ℕ) → IsLastPublished events last
     → next_version events ≡ versions_up_to last
 
--- as nothing goes, each version is at least the floor
-abbrev pub NothingGoes : Type 0
-NothingGoes = (events : List Told) (horizon : ℤ) → Lawful events horizon → (version : ℕ) → FromFloor events version
+-- each version of the history can be read, or lies below a complete checkpoint; from a version that is at least the floor on, below one of at most that
+abbrev pub NeededStays : Type 0
+NeededStays = (events : List Told) (horizon : ℤ) → Lawful events horizon → (version : ℕ) → version < next_version events → Available events version ⊎ HasAbove events version
+
+abbrev pub KeptFromFloor : Type 0
+KeptFromFloor = (events : List Told) (horizon : ℤ) → Lawful events horizon → (version kept : ℕ) → version < next_version events → FromFloor events kept
+    → Available events version ⊎ HasBetween events version kept
+
+-- the last version is at least the floor, and so is each above one that is
+abbrev pub LastIsFromFloor : Type 0
+LastIsFromFloor = (events : List Told) (horizon : ℤ) → Lawful events horizon → (version : ℕ) → version + 1 ≡ next_version events → FromFloor events version
+
+abbrev pub FloorIsUpward : Type 0
+FloorIsUpward = (events : List Told) (version greater : ℕ) → version ≤ greater → FromFloor events version → FromFloor events greater
+
+-- each sidecar that a checkpoint names stands
+abbrev pub SidecarsStay : Type 0
+SidecarsStay = (events : List Told) (horizon : ℤ) → Lawful events horizon → (place : Place) (name : List ℕ) → Names events place name → Present events (Sidecar name)
+
+-- a version that stands ratified came to a managed table, and its commit can be read
+abbrev pub RatifiedIsManaged : Type 0
+RatifiedIsManaged = (events : List Told) (horizon : ℤ) → Lawful events horizon → (version : ℕ) (name : List ℕ) → standing events version ≡ Some name
+    → is_managed (table_before events version) ≡ true
+
+abbrev pub RatifiedStays : Type 0
+RatifiedStays = (events : List Told) (horizon : ℤ) → Lawful events horizon → (version : ℕ) (name : List ℕ) → standing events version ≡ Some name → Available events version
+
+-- a ratified version that isn't published has its staged commit
+abbrev pub UnpublishedIsStaged : Type 0
+UnpublishedIsStaged = (events : List Told) (horizon : ℤ) → Lawful events horizon → (version : ℕ) → version < next_version events → (AtMostPublished events version → ⊥) → IsStaged events version
+
+-- Of a log with ratifications the next version is one above the greatest that was ever ratified, so that the store never answers
+-- that another one is.
+abbrev pub NextIsRatifiedNext : Type 0
+NextIsRatifiedNext = (events : List Told) (horizon : ℤ) → Lawful events horizon → MayRatify (next_version events) (next_ratified events)
+
+-- a version that came by file has its commit, or lies below a complete checkpoint
+abbrev pub FilesStay : Type 0
+FilesStay = (events : List Told) (horizon : ℤ) → Lawful events horizon → (version : ℕ) → version < next_version events → is_managed (table_before events version) ≡ false
+    → Present events (Commit_at version) ⊎ HasAbove events version
+
+-- what was published stays so, though its commit may go; complete checkpoints are of published versions
+abbrev pub PublishedStays : Type 0
+PublishedStays = (newer events : List Told) (horizon : ℤ) → Lawful (newer ++ events) horizon → (version : ℕ) → AtMostPublished events version → AtMostPublished (newer ++ events) version
+
+abbrev pub CompleteIsPublished : Type 0
+CompleteIsPublished = (events : List Told) (horizon : ℤ) → Lawful events horizon → (version : ℕ) → Complete events version → AtMostPublished events version
+
+-- once a table is managed it stays so
+abbrev pub ManagementStays : Type 0
+ManagementStays = (before : TableState) (version : ℕ) (actions : List Action) → IsValidNext before version actions → is_managed before ≡ true → is_managed (steps before actions) ≡ true
 
 -- A put of the next commit's text leaves a lawful log lawful, whatever it answers.
 abbrev pub PutKeepsLawful : Type 0

@@ -1,3 +1,5 @@
+pub mod Agree
+pub mod Checkpoints
 pub mod Example
 pub mod Floor
 pub mod History
@@ -5,6 +7,7 @@ pub mod Kept
 pub mod Laws
 pub mod Lawful
 pub mod Managed
+pub mod MoreExamples
 pub mod Permits
 pub mod Present
 pub mod Rules

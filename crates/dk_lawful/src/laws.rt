@@ -3,9 +3,12 @@
 ghost use Rattle.std.specs.Prelude.{[], codes, pos, ◌++◌, ◌∷◌, ◌≡◌};
 ghost use Rattle.dk_lawful.specs.Example.{ExampleHistory, ExampleIsLawful, IsForbidden, example, first_text, listing_text, managed_actions, managed_text, ratifying, second_actions, second_text, shrinking_text, staging, upgrading_text};
 ghost use Rattle.dk_lawful.specs.History.{by_catalogue, by_file, history};
-ghost use Rattle.dk_lawful.specs.Laws.{CommitsStay, GreaterHorizonIsLawful, HistoryGrows, LastIsPublished, LogShowsHistory, NextIsFree, NothingGoes, OneAtATime, PrefixesAreLawful, PutAddsCommit, PutKeepsLawful, PutLeavesFloor, StandingCommitIsHistory, TableIsWhole, TakenAddsNothing, WholeLogIsOne, WriterOneIsUnmanaged};
+ghost use Rattle.dk_lawful.specs.Laws.{CommitsStay, CompleteIsPublished, EachCameItsWay, FilesStay, FloorIsUpward, GreaterHorizonIsLawful, HistoryGrows, KeptFromFloor, LastIsAvailable, LastIsFromFloor, LastIsPublished, LogShowsHistory, ManagementStays, NeededStays, NextIsFree, NextIsRatifiedNext, NoneBeyondLast, OneAtATime, PrefixesAreLawful, PublishedStays, PutAddsCommit, PutKeepsLawful, PutLeavesFloor, RatifiedIsManaged, RatifiedStays, SidecarsStay, StagedCommitIsHistory, StandingCommitIsHistory, TableIsWhole, TakenAddsNothing, UnpublishedIsStaged, WholeLogIsOne, WriterOneIsUnmanaged};
+ghost use Rattle.dk_lawful.specs.MoreExamples.{IsLawfulAfter, cleaning, compacting, dropping, hinting, staged_event};
 ghost use Rattle.dk_paths.specs.Names.{commit_path};
-ghost use Rattle.dk_store.specs.Told.{Deleted, Forgotten, Made, Over};
+ghost use Rattle.dk_paths.specs.Places.{Compacted, Staged, place_path};
+ghost use Rattle.dk_paths.specs.Staged.{staged_name};
+ghost use Rattle.dk_store.specs.Told.{Deleted, Forgotten, Made, Over, Ratified};
 
 /// Whether a list of events is lawful is decided event by event: what was before is lawful, so the log is lawful
 /// after each single write. A greater horizon permits as much.
@@ -20,18 +23,48 @@ pub fn history_only_grows()
     ensures grows { HistoryGrows }
     ensures one { OneAtATime }
     ensures stays { CommitsStay }
+    ensures ways { EachCameItsWay }
 {}
 
-/// On a lawful log of commits each version below the next one has its commit at its path, which means what the
-/// history has there, and no other version has one. So the last version is the last published one, and no version
-/// is lost (Delta Lake's PROTOCOL.md, "Delta Log Entries").
+/// On a lawful log a commit that stands means what the history has at its version, and so does the staged commit of
+/// a version that stands ratified. The last version can be read, and none beyond it. While nothing that is needed was
+/// deleted, the log of a table that isn't managed shows the whole history and nothing else (Delta Lake's PROTOCOL.md,
+/// "Delta Log Entries").
 pub fn log_is_the_history()
+    ensures commit { StandingCommitIsHistory }
+    ensures staged { StagedCommitIsHistory }
+    ensures available { LastIsAvailable }
+    ensures none_beyond { NoneBeyondLast }
+    ensures whole { TableIsWhole }
+
+    // a table that isn't managed
     ensures shown { LogShowsHistory }
     ensures one { WholeLogIsOne }
-    ensures whole { TableIsWhole }
-    ensures only { StandingCommitIsHistory }
     ensures last { LastIsPublished }
-    ensures floor { NothingGoes }
+{}
+
+/// Nothing that is needed goes. Each version can be read or lies below a complete checkpoint; from the floor on below
+/// one of at most the version that is asked for. Sidecars that a checkpoint names stand, and what was published stays
+/// so (Delta Lake's PROTOCOL.md, "Metadata Cleanup").
+pub fn needed_stays()
+    ensures needed { NeededStays }
+    ensures kept { KeptFromFloor }
+    ensures last { LastIsFromFloor }
+    ensures upward { FloorIsUpward }
+    ensures sidecars { SidecarsStay }
+    ensures files { FilesStay }
+    ensures published { PublishedStays }
+    ensures complete { CompleteIsPublished }
+{}
+
+/// What stands ratified came to a managed table and can be read, staged where it isn't published yet; and a table that is
+/// managed stays so (Delta Lake's PROTOCOL.md, "Catalog-managed tables").
+pub fn ratified_stays()
+    ensures managed { RatifiedIsManaged }
+    ensures available { RatifiedStays }
+    ensures unpublished { UnpublishedIsStaged }
+    ensures next { NextIsRatifiedNext }
+    ensures management { ManagementStays }
 {}
 
 /// One put of a commit's text at the path of the next version leaves a lawful log lawful, and adds exactly that
@@ -70,7 +103,15 @@ pub fn example_histories()
     ensures forgotten { history (Forgotten 1 ∷ ratifying) ≡ history ratifying }
 {}
 
-/// For each condition on a commit an event that it forbids.
+/// The example goes on with events of the other kinds.
+pub fn example_goes_on()
+    ensures compacting { IsLawfulAfter compacting }
+    ensures hinting { IsLawfulAfter hinting }
+    ensures dropping { IsLawfulAfter dropping }
+    ensures cleaning { IsLawfulAfter cleaning }
+{}
+
+/// For each condition on a commit an event that it forbids, and some of other kinds.
 pub fn forbidden_events()
     // a version that isn't the next one
     ensures gap { IsForbidden example (Made (commit_path 3) second_text (pos 2)) }
@@ -93,4 +134,13 @@ pub fn forbidden_events()
     // a commit that is written over or deleted
     ensures over { IsForbidden example (Over (commit_path 1) second_text (pos 2)) }
     ensures deleted { IsForbidden example (Deleted (commit_path 0)) }
+
+    // a compacted file that does something else than its commits, or has one that isn't published
+    ensures wrong_sum { IsForbidden example (Made (place_path (Compacted 0 1)) second_text (pos 2)) }
+    ensures sum_beyond { IsForbidden example (Made (place_path (Compacted 1 2)) second_text (pos 2)) }
+
+    // a staged commit of a version that came, a ratification of a table that isn't managed, and that more is forgotten than is published
+    ensures staged_below { IsForbidden example (Made (place_path (Staged 1 7)) second_text (pos 2)) }
+    ensures unmanaged { IsForbidden (staged_event ∷ example) (Ratified 2 (staged_name 2 7)) }
+    ensures forgotten { IsForbidden example (Forgotten 2) }
 {}

@@ -1,5 +1,6 @@
 -- Each event lacks one condition.
 use Rattle.dk_lawful.proofs.Example as example
+use Rattle.dk_lawful.proofs.MoreExamples as more
 use Rattle.dk_lawful.proofs.laws.forbidden_events.Goals as goal
 
 pub returns-clause-gap : goal.returns-clause-gap
@@ -37,3 +38,18 @@ returns-clause-over c = example.over
 
 pub returns-clause-deleted : goal.returns-clause-deleted
 returns-clause-deleted c = example.deleted
+
+pub returns-clause-wrong_sum : goal.returns-clause-wrong_sum
+returns-clause-wrong_sum c = more.wrong_sum
+
+pub returns-clause-sum_beyond : goal.returns-clause-sum_beyond
+returns-clause-sum_beyond c = more.sum_beyond
+
+pub returns-clause-staged_below : goal.returns-clause-staged_below
+returns-clause-staged_below c = more.staged_below
+
+pub returns-clause-unmanaged : goal.returns-clause-unmanaged
+returns-clause-unmanaged c = more.unmanaged_ratified
+
+pub returns-clause-forgotten : goal.returns-clause-forgotten
+returns-clause-forgotten c = more.forgotten_early

@@ -1,6 +1,6 @@
 -- The laws are lemmas.
 use Rattle.dk_lawful.proofs.Puts.{put_keeps_lawful, put_adds_commit, put_leaves_floor, taken_adds_nothing}
-use Rattle.dk_lawful.proofs.Sound.{next_is_free}
+use Rattle.dk_lawful.proofs.Stays.{next_is_free}
 use Rattle.dk_lawful.proofs.Unmanaged.{writer_one_is_unmanaged}
 use Rattle.dk_lawful.proofs.laws.next_commit_is_added.Goals as goal
 
