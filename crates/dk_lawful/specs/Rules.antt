@@ -5,6 +5,7 @@ use Rattle.std.specs.List.{list_any, list_all, filter_map}
 use Rattle.std.specs.Str.{bytes_eq}
 use Rattle.dk_model.specs.declared.action.Protocol.{Protocol}
 use Rattle.dk_model.specs.declared.action.Metadata.{Metadata}
+use Rattle.dk_model.specs.declared.action.CommitInfo.{CommitInfo}
 use Rattle.dk_model.specs.declared.action.Action.{Action}
 use Rattle.dk_model.specs.declared.action.Action.TheVariants as action
 use Rattle.dk_model.specs.declared.state.TableState.{TableState}
@@ -31,6 +32,14 @@ is_count_allowed (suc version) count = nat_le count 1
 
 abbrev pub keeps_heads : ℕ → List Action → Bool
 keeps_heads version actions = is_count_allowed version (length (filter_map protocol_in actions)) && is_count_allowed version (length (filter_map metadata_in actions))
+
+-- rule 2: at most one commitInfo
+abbrev pub info_in : Action → Option CommitInfo
+info_in (action.Info i) = Some i
+info_in _ = None
+
+abbrev pub keeps_info : List Action → Bool
+keeps_info actions = nat_le (length (filter_map info_in actions)) 1
 
 -- rule 3: no path stands in two file actions
 abbrev pub is_each_once : List (List ℕ) → Bool
@@ -73,6 +82,7 @@ keeps_adds actions = list_all is_plain_add actions
 abbrev pub first_broken : TableState → ℕ → List Action → Option ℕ
 first_broken before version actions =
     if not (keeps_heads version actions) then Some 1
+    else if not (keeps_info actions) then Some 2
     else if not (keeps_paths_apart actions) then Some 3
     else if not (keeps_protocol before actions) then Some 5
     else if not (keeps_writer before actions) then Some 6
