@@ -193,7 +193,7 @@ pub fn append_own_info(
     Ok(())
 }
 
-/// Appends the line of an action that is one of a list.
+/// Appends the line of an action, and says what the types of its parts keep.
 fn sound_line(alloc: Global, out: &mut Vec<u8>, action: &Action) -> Result<(), AllocError>
     ensures text { OnOk result (out.new.items ≡ out.old.items ++ written_line action.now) }
     ensures sound { OnOk result (IsSound action.now) }

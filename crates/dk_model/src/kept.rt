@@ -9,7 +9,8 @@ use crate::action::{Action, AddFile, CommitInfo, Metadata, RemoveFile};
 use crate::pairs::Pairs;
 
 impl Action {
-    /// The numbers of an action are of 64 bits, and its maps have their keys in order. It does nothing.
+    /// Does nothing but say, for proofs, that the numbers of an action are of 64 bits and that its maps
+    /// have their keys in order.
     pub fn note_kept(&self)
         ensures range { HasVersionsInRange self.now → IsInRange self.now }
         ensures keys { HasRisingKeys self.now }
