@@ -15,7 +15,7 @@ use Rattle.dk_lawful.specs.Permits.{MayDelete}
 use Rattle.dk_lawful.specs.Lawful.{Lawful}
 use Rattle.dk_lawful.specs.Floor.{FromFloor, IsBelow}
 use Rattle.dk_lawful.specs.Checkpoints.{Top, TopMeans-one, SidesMean, Among}
-use Rattle.dk_lawful.specs.Laws.{LogShowsHistory, StandingCommitIsHistory, StagedCommitIsHistory, LastIsAvailable, NoneBeyondLast, LastIsPublished, NeededStays, KeptFromFloor, LastIsFromFloor, FloorIsUpward, SidecarsStay, RatifiedIsManaged, RatifiedStays, UnpublishedIsStaged, FilesStay, PublishedStays, CompleteIsPublished, NextIsFree}
+use Rattle.dk_lawful.specs.Laws.{LogShowsHistory, StandingCommitIsHistory, StagedCommitIsHistory, LastIsAvailable, NoneBeyondLast, LastIsPublished, LastPublishedIsOne, NeededStays, KeptFromFloor, LastIsFromFloor, FloorIsUpward, SidecarsStay, RatifiedIsManaged, RatifiedStays, UnpublishedIsStaged, FilesStay, PublishedStays, CompleteIsPublished, NextIsFree}
 use Rattle.dk_lawful.proofs.Lists.{slice_get-map}
 use Rattle.dk_lawful.proofs.Standing.{commit_place, commit_small, held_at, placed, object_none}
 use Rattle.dk_lawful.proofs.Structure.{grows_by_one}
@@ -225,3 +225,13 @@ last_is_published events horizon lawful unmanaged (Some last) is = go (next_vers
         let below = none_beyond_last events horizon lawful last (inl is.0) in
         let most = is.1 version (all_stand events horizon lawful unmanaged version (last_is_available events horizon lawful version (omega arith))) in
         omega arith
+
+pub last_published_is_one : LastPublishedIsOne
+last_published_is_one events None None none other = refl
+last_published_is_one events None (Some other) none is = absurd (none other is.0)
+last_published_is_one events (Some last) None is none = absurd (none last is.0)
+last_published_is_one events (Some last) (Some other) is is_other =
+    let up = is_other.1 last is.0 in
+    let down = is.1 other is_other.0 in
+    let same : last ≡ other = omega arith in
+    ap Some same

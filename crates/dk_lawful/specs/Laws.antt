@@ -1,9 +1,9 @@
 -- The laws of the log, as statements. A list of events has the newest first, so what was before is its end.
-use Rattle.std.specs.Prelude.{◌≡◌, true, false, ℕ, ℤ, ◌+◌, ◌^◌, ◌<◌, ◌≤◌, ◌≤ℤ◌, ◌⊎◌, List, ◌∷◌, ◌++◌, Option, Some, None, Result, IfSome, IsSome, IsNone, length, take, option_and_then, slice_get}
+use Rattle.std.specs.Prelude.{◌≡◌, true, false, ℕ, ℤ, ◌+◌, ◌^◌, ◌<◌, ◌≤◌, ◌≤ℤ◌, ◌⊎◌, List, ◌∷◌, ◌++◌, Option, Some, None, Result, IfSome, IsSome, IsNone, length, option_and_then, slice_get}
 use Rattle.dk_model.specs.declared.action.Action.{Action}
 use Rattle.dk_model.specs.declared.state.TableState.{TableState}
 use Rattle.dk_model.specs.CommitText.{commit_of}
-use Rattle.dk_model.specs.State.{fold, steps}
+use Rattle.dk_model.specs.State.{steps}
 use Rattle.dk_store.specs.declared.event.Put.{Put}
 use Rattle.dk_store.specs.declared.event.StoreError.{StoreError}
 use Rattle.dk_store.specs.Told.{Told}
@@ -13,8 +13,8 @@ use Rattle.dk_paths.specs.Names.{commit_path}
 use Rattle.dk_paths.specs.Places.{Place, Commit_at, Sidecar, Staged}
 use Rattle.dk_paths.specs.Staged.{staged_name}
 use Rattle.dk_store.specs.Standings.{standing, next_ratified}
-use Rattle.dk_lawful.specs.Present.{Holds, Present, IsLastPublished, versions_up_to, AtMostPublished, IsStaged, Available, Complete, HasAbove}
-use Rattle.dk_lawful.specs.History.{RatifiedCommit, history, next_version, commits_of, table, table_before, goes_on_by, HasHeads}
+use Rattle.dk_lawful.specs.Present.{Holds, Present, IsLastPublished, versions_up_to, AtMostPublished, HasStaged, Available, Complete, HasAbove}
+use Rattle.dk_lawful.specs.History.{RatifiedCommit, history, next_version, commits_of, table, table_at, table_before, goes_on_by, HasHeads}
 use Rattle.dk_lawful.specs.Permits.{IsNextCommit}
 use Rattle.dk_lawful.specs.Lawful.{Lawful}
 use Rattle.dk_lawful.specs.Floor.{FromFloor, HasBetween}
@@ -66,7 +66,7 @@ WholeLogIsOne = (events : List Told) (log other : List (List Action)) → IsWhol
 -- from version 0 on the table has a protocol and metadata
 abbrev pub TableIsWhole : Type 0
 TableIsWhole = (events : List Told) (horizon : ℤ) → Lawful events horizon → (version : ℕ) → version < next_version events
-    → HasHeads (fold (take (version + 1) (commits_of (history events))))
+    → HasHeads (table_at events version)
 
 -- a commit that stands in the log means what the history has at its version
 abbrev pub StandingCommitIsHistory : Type 0
@@ -84,6 +84,10 @@ LastIsAvailable = (events : List Told) (horizon : ℤ) → Lawful events horizon
 
 abbrev pub NoneBeyondLast : Type 0
 NoneBeyondLast = (events : List Told) (horizon : ℤ) → Lawful events horizon → (version : ℕ) → Available events version → version < next_version events
+
+-- the last published version is one
+abbrev pub LastPublishedIsOne : Type 0
+LastPublishedIsOne = (events : List Told) (last other : Option ℕ) → IsLastPublished events last → IsLastPublished events other → last ≡ other
 
 -- of a table that isn't managed the last version of the history is the last published one
 abbrev pub LastIsPublished : Type 0
@@ -119,7 +123,7 @@ RatifiedStays = (events : List Told) (horizon : ℤ) → Lawful events horizon �
 
 -- a ratified version that isn't published has its staged commit
 abbrev pub UnpublishedIsStaged : Type 0
-UnpublishedIsStaged = (events : List Told) (horizon : ℤ) → Lawful events horizon → (version : ℕ) → version < next_version events → (AtMostPublished events version → ⊥) → IsStaged events version
+UnpublishedIsStaged = (events : List Told) (horizon : ℤ) → Lawful events horizon → (version : ℕ) → version < next_version events → (AtMostPublished events version → ⊥) → HasStaged events version
 
 -- Of a log with ratifications the next version is one above the greatest that was ever ratified, so that the store never answers
 -- that another one is.

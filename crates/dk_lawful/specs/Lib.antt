@@ -1,4 +1,5 @@
 pub mod Agree
+pub mod Calls
 pub mod Checkpoints
 pub mod Example
 pub mod Floor

@@ -35,12 +35,12 @@ abbrev pub staged_bytes : List Told → List ℕ → Option (List ℕ)
 staged_bytes events name = content events (log_front ++ (staged_front ++ name))
 
 -- the staged commit stands that was ratified for the version
-abbrev pub IsStaged : List Told → ℕ → Type 0
-IsStaged events version = (id : ℕ) × (standing events version ≡ Some (staged_name version id)) × Present events (Staged version id)
+abbrev pub HasStaged : List Told → ℕ → Type 0
+HasStaged events version = (id : ℕ) × (standing events version ≡ Some (staged_name version id)) × Present events (Staged version id)
 
 -- the version's commit can be read, in the log or staged
 abbrev pub Available : List Told → ℕ → Type 0
-Available events version = Present events (Commit_at version) ⊎ IsStaged events version
+Available events version = Present events (Commit_at version) ⊎ HasStaged events version
 
 -- A checkpoint of this version is complete: its one object stands, or all of its parts do. Sidecars don't count.
 abbrev pub Complete : List Told → ℕ → Type 0

@@ -1,9 +1,10 @@
 //! The laws of the log, for the crates above. None of these functions does anything when it runs.
 
 ghost use Rattle.std.specs.Prelude.{[], codes, pos, ◌++◌, ◌∷◌, ◌≡◌};
+ghost use Rattle.dk_lawful.specs.Calls.{DeleteKeepsLawful, ForgetKeepsLawful, PutNewKeepsLawful, PutOverKeepsLawful, RatifyKeepsLawful};
 ghost use Rattle.dk_lawful.specs.Example.{ExampleHistory, ExampleIsLawful, IsForbidden, example, first_text, listing_text, managed_actions, managed_text, ratifying, second_actions, second_text, shrinking_text, staging, upgrading_text};
 ghost use Rattle.dk_lawful.specs.History.{by_catalogue, by_file, history};
-ghost use Rattle.dk_lawful.specs.Laws.{CommitsStay, CompleteIsPublished, EachCameItsWay, FilesStay, FloorIsUpward, GreaterHorizonIsLawful, HistoryGrows, KeptFromFloor, LastIsAvailable, LastIsFromFloor, LastIsPublished, LogShowsHistory, ManagementStays, NeededStays, NextIsFree, NextIsRatifiedNext, NoneBeyondLast, OneAtATime, PrefixesAreLawful, PublishedStays, PutAddsCommit, PutKeepsLawful, PutLeavesFloor, RatifiedIsManaged, RatifiedStays, SidecarsStay, StagedCommitIsHistory, StandingCommitIsHistory, TableIsWhole, TakenAddsNothing, UnpublishedIsStaged, WholeLogIsOne, WriterOneIsUnmanaged};
+ghost use Rattle.dk_lawful.specs.Laws.{CommitsStay, CompleteIsPublished, EachCameItsWay, FilesStay, FloorIsUpward, GreaterHorizonIsLawful, HistoryGrows, KeptFromFloor, LastIsAvailable, LastIsFromFloor, LastIsPublished, LastPublishedIsOne, LogShowsHistory, ManagementStays, NeededStays, NextIsFree, NextIsRatifiedNext, NoneBeyondLast, OneAtATime, PrefixesAreLawful, PublishedStays, PutAddsCommit, PutKeepsLawful, PutLeavesFloor, RatifiedIsManaged, RatifiedStays, SidecarsStay, StagedCommitIsHistory, StandingCommitIsHistory, TableIsWhole, TakenAddsNothing, UnpublishedIsStaged, WholeLogIsOne, WriterOneIsUnmanaged};
 ghost use Rattle.dk_lawful.specs.MoreExamples.{IsLawfulAfter, cleaning, compacting, dropping, hinting, staged_event};
 ghost use Rattle.dk_paths.specs.Names.{commit_path};
 ghost use Rattle.dk_paths.specs.Places.{Compacted, Staged, place_path};
@@ -41,6 +42,7 @@ pub fn log_is_the_history()
     ensures shown { LogShowsHistory }
     ensures one { WholeLogIsOne }
     ensures last { LastIsPublished }
+    ensures last_one { LastPublishedIsOne }
 {}
 
 /// Nothing that is needed goes. Each version can be read or lies below a complete checkpoint; from the floor on below
@@ -78,6 +80,17 @@ pub fn next_commit_is_added()
     ensures free { NextIsFree }
     ensures unmanaged { WriterOneIsUnmanaged }
     ensures taken { TakenAddsNothing }
+{}
+
+/// Each writing call of a store whose event is permitted leaves a lawful log lawful, with the old events as they were,
+/// whatever it answers: also where it failed before or after its event, or left a beginning of an object that it was to
+/// write over.
+pub fn calls_keep_the_law()
+    ensures put_new { PutNewKeepsLawful }
+    ensures put_over { PutOverKeepsLawful }
+    ensures delete { DeleteKeepsLawful }
+    ensures ratify { RatifyKeepsLawful }
+    ensures forget { ForgetKeepsLawful }
 {}
 
 /// A lawful log of two commits, and its history.

@@ -5,6 +5,7 @@
 mod laws;
 
 pub use laws::{
-    example_goes_on, example_histories, example_is_lawful, forbidden_events, history_only_grows,
-    log_is_the_history, needed_stays, next_commit_is_added, permitted_one_by_one, ratified_stays,
+    calls_keep_the_law, example_goes_on, example_histories, example_is_lawful, forbidden_events,
+    history_only_grows, log_is_the_history, needed_stays, next_commit_is_added,
+    permitted_one_by_one, ratified_stays,
 };

@@ -1,5 +1,5 @@
 -- The laws are lemmas.
-use Rattle.dk_lawful.proofs.Stays.{log_shows_history, standing_commit_is_history, staged_commit_is_history, last_is_published, last_is_available, none_beyond_last}
+use Rattle.dk_lawful.proofs.Stays.{last_published_is_one, log_shows_history, standing_commit_is_history, staged_commit_is_history, last_is_published, last_is_available, none_beyond_last}
 use Rattle.dk_lawful.proofs.WholeLog.{whole_log_is_one}
 use Rattle.dk_lawful.proofs.Validly.{table_is_whole}
 use Rattle.dk_lawful.proofs.laws.log_is_the_history.Goals as goal
@@ -27,3 +27,6 @@ returns-clause-available c = last_is_available
 
 pub returns-clause-none_beyond : goal.returns-clause-none_beyond
 returns-clause-none_beyond c = none_beyond_last
+
+pub returns-clause-last_one : goal.returns-clause-last_one
+returns-clause-last_one c = last_published_is_one
