@@ -7,6 +7,7 @@ pub mod MoreExamples
 pub mod NextRatified
 pub mod OnTexts
 pub mod Puts
+pub mod ReadLog
 pub mod Sound
 pub mod SoundDeleted
 pub mod SoundMade

@@ -1,5 +1,5 @@
 -- An element of a list by its place, and a list that is longer by one.
-use Rattle.std.proofs.Common.{◌≡◌, ℕ, zero, suc, List, [], ◌∷◌, ◌++◌, length, map, Option, Some, None, slice_get, ◌<◌, arith, ap₂, refl}
+use Rattle.std.proofs.Common.{◌≡◌, ℕ, zero, suc, List, [], ◌∷◌, ◌++◌, length, map, Option, Some, None, slice_get, ◌<◌, arith, ap₂, refl, take, ◌≤◌}
 
 pub slice_get-append : {X : Type 0} (xs ys : List X) (i : ℕ) (x : X) → slice_get xs i ≡ Some x → slice_get (xs ++ ys) i ≡ Some x
 slice_get-append [] ys i x e = absurd (let no : ◌≡◌ {A = Option _} None (Some x) = e in cc)
@@ -31,3 +31,14 @@ pub slice_get-before : {X : Type 0} (xs ys : List X) (i : ℕ) → i < length xs
 slice_get-before [] ys i below = absurd (omega arith)
 slice_get-before (x ∷ xs) ys zero below = refl
 slice_get-before (x ∷ xs) ys (suc i) below = slice_get-before xs ys i (omega arith)
+
+pub slice_get-take : {X : Type 0} (n : ℕ) (xs : List X) (i : ℕ) → i < n → slice_get (take n xs) i ≡ slice_get xs i
+slice_get-take zero xs i below = absurd (omega arith)
+slice_get-take (suc n) [] i below = refl
+slice_get-take (suc n) (x ∷ xs) zero below = refl
+slice_get-take (suc n) (x ∷ xs) (suc i) below = slice_get-take n xs i (omega arith)
+
+pub length-take-most : {X : Type 0} (n : ℕ) (xs : List X) → length (take n xs) ≤ n
+length-take-most zero xs = omega arith
+length-take-most (suc n) [] = omega arith
+length-take-most (suc n) (x ∷ xs) = let most = length-take-most n xs in omega arith

@@ -3,7 +3,7 @@ use Rattle.std.specs.Prelude.{◌≡◌, true, false, ℕ, ℤ, ◌+◌, ◌^◌
 use Rattle.dk_model.specs.declared.action.Action.{Action}
 use Rattle.dk_model.specs.declared.state.TableState.{TableState}
 use Rattle.dk_model.specs.CommitText.{commit_of}
-use Rattle.dk_model.specs.State.{steps}
+use Rattle.dk_model.specs.State.{fold, steps}
 use Rattle.dk_store.specs.declared.event.Put.{Put}
 use Rattle.dk_store.specs.declared.event.StoreError.{StoreError}
 use Rattle.dk_store.specs.Told.{Told}
@@ -62,6 +62,11 @@ LogShowsHistory = (events : List Told) (horizon : ℤ) → Lawful events horizon
 -- whoever reads a log as a whole reads one and the same
 abbrev pub WholeLogIsOne : Type 0
 WholeLogIsOne = (events : List Told) (log other : List (List Action)) → IsWholeLog events log → IsWholeLog events other → log ≡ other
+
+-- While nothing that is needed was deleted: whoever has read a whole log, and it leads to a table that isn't managed, has read the history.
+abbrev pub ReadLogIsHistory : Type 0
+ReadLogIsHistory = (events : List Told) (horizon : ℤ) (log : List (List Action)) → Lawful events horizon → FromFloor events 0 → IsWholeLog events log
+    → is_managed (fold log) ≡ false → log ≡ commits_of (history events)
 
 -- from version 0 on the table has a protocol and metadata
 abbrev pub TableIsWhole : Type 0

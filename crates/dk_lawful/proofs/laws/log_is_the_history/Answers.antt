@@ -2,6 +2,7 @@
 use Rattle.dk_lawful.proofs.Stays.{last_published_is_one, log_shows_history, standing_commit_is_history, staged_commit_is_history, last_is_published, last_is_available, none_beyond_last}
 use Rattle.dk_lawful.proofs.WholeLog.{whole_log_is_one}
 use Rattle.dk_lawful.proofs.Validly.{table_is_whole}
+use Rattle.dk_lawful.proofs.ReadLog.{read_log_is_history}
 use Rattle.dk_lawful.proofs.laws.log_is_the_history.Goals as goal
 
 pub returns-clause-shown : goal.returns-clause-shown
@@ -30,3 +31,6 @@ returns-clause-none_beyond c = none_beyond_last
 
 pub returns-clause-last_one : goal.returns-clause-last_one
 returns-clause-last_one c = last_published_is_one
+
+pub returns-clause-read : goal.returns-clause-read
+returns-clause-read c = read_log_is_history
