@@ -1,0 +1,4 @@
+pub mod Bodies
+pub mod Digits
+pub mod Runs
+pub mod Varints

@@ -1,0 +1,12 @@
+//! Laws of runs. Each function does nothing; what it promises is the law.
+
+ghost use Rattle.std.specs.Prelude.{◌≡◌, ℕ, ◌++◌, List};
+ghost use Rattle.dk_grammar.specs.Runs.{AreFirst, EndShort};
+
+/// Bytes hold the first values of runs in at most one way, and bytes that end before so many values
+/// hold none.
+pub fn runs_have_one_meaning()
+    ensures one { (width count : ℕ) (values others front other rest more : List ℕ) → AreFirst width count values front → AreFirst width count others other
+        → front ++ rest ≡ other ++ more → (front ≡ other) × (values ≡ others) }
+    ensures short { (width count : ℕ) (values bytes front rest : List ℕ) → EndShort width count bytes → AreFirst width count values front → bytes ≡ front ++ rest → ⊥ }
+{}

@@ -1,0 +1,42 @@
+//! Values out of runs.
+
+ghost use Rattle.std.specs.Prelude.{◌≡◌, ℕ, ◌<◌, ◌≤◌, ◌↔◌, ◌++◌, List, length, take, IfOk, IsErr, IsErrOf};
+ghost use Rattle.dk_grammar.specs.Runs.{AreFirst, EndShort};
+ghost use Rattle.dk_hybrid.specs.Runs.{Gives};
+
+use crate::fault::HybridFault;
+use crate::run::{append, read_run};
+use std::alloc::Global;
+
+/// The first `count` values of the runs at the front of the bytes, and how many bytes these runs take.
+pub fn decode(
+    alloc: Global,
+    bytes: &[u8],
+    width: u8,
+    count: usize,
+) -> Result<(Vec<u32>, usize), HybridFault>
+    // The values are the first of the runs that so many bytes are.
+    ensures found { IfOk result (λ x. (x.1 ≤ length bytes.now) × AreFirst width count x.0.items (take x.1 bytes.now)) }
+    // Where bytes at the front are runs with these first values, it is these that are answered.
+    ensures only { width ≤ 32 → (values front rest : List ℕ) → AreFirst width count values front → bytes.now ≡ front ++ rest
+        → Gives {Y = List ℕ × ℕ} (λ x. (x.0.items, x.1)) result (values, length front) }
+    ensures width { IsErrOf result HybridFault.Width ↔ (32 < width) }
+    // `Short` comes only where the bytes end first, and there no values are answered.
+    ensures short { IsErrOf result HybridFault.Short → EndShort width count bytes.now }
+    ensures ended { EndShort width count bytes.now → IsErr result }
+{
+    if width > 32 {
+        return Err(HybridFault::Width);
+    }
+    let mut values = Vec::new(alloc);
+    let mut rest = bytes;
+    while values.len() < count {
+        let Some((run, after)) = read_run(rest, width) else {
+            return Err(HybridFault::Short);
+        };
+        let missing = count - values.len();
+        append(&mut values, run, width, missing)?;
+        rest = after;
+    }
+    Ok((values, bytes.len() - rest.len()))
+}

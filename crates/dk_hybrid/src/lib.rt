@@ -1,0 +1,17 @@
+//! Runs of values, the hybrid encoding (RLE and bit packing) of levels and dictionary indices in Parquet, both ways.
+#![tactic(auto)]
+
+mod decoding;
+mod encoding;
+mod fault;
+mod header;
+pub mod laws;
+mod packing;
+mod run;
+#[cfg(test)]
+mod tests;
+mod unpacking;
+
+pub use decoding::decode;
+pub use encoding::encode;
+pub use fault::HybridFault;
