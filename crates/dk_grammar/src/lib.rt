@@ -1,6 +1,7 @@
 //! The grammars of bytes that several crates read and write: varints, zigzag numbers, Thrift's compact protocol, numbers in a
-//! base, and runs.
+//! base, runs and plain values.
 #![tactic(auto)]
 
 pub mod laws;
+pub mod plain_laws;
 pub mod run_laws;
