@@ -1,6 +1,6 @@
 -- Published and hand-computed bytes under the definitions.
-use Rattle.std.proofs.Common.{◌≡◌, ℕ, List, [], ◌∷◌, refl}
-use Rattle.dk_grammar.specs.Digits.{number_of, digits_of}
+use Rattle.std.proofs.Common.{◌≡◌, [], ◌∷◌, refl}
+use Rattle.dk_grammar.specs.Digits.{number_of}
 use Rattle.dk_grammar.specs.Plain.{plain_bytes, int32, int64, chars}
 use Rattle.std.proofs.Common.{pos, negsuc}
 

@@ -1,11 +1,10 @@
 -- No spelling of a plain value begins the spelling of another of its type, and bytes hold so many flags in one way.
-use Rattle.std.proofs.Common.{◌≡◌, ℕ, zero, suc, ◌+◌, ◌-◌, ◌*◌, ◌^◌, ◌<◌, ◌≤◌, ℤ, pos, negsuc, Bool, true, false, List, [], ◌∷◌, ◌++◌, length, take, map, refl, sym, ap, subst, ◌∙◌, arith, lit<}
-use Rattle.std.proofs.lemmas.List.{append_assoc, append_cancel_left, take_at, length-map}
+use Rattle.std.proofs.Common.{◌≡◌, ℕ, ◌^◌, ◌<◌, ℤ, pos, negsuc, Bool, true, false, List, [], ◌∷◌, ◌++◌, length, map, refl, sym, ap, ◌∙◌, arith, lit<}
+use Rattle.std.proofs.lemmas.List.{append_assoc, length-map}
 use Rattle.std.proofs.lemmas.Int.{ints}
 use Rattle.std.specs.Prelude.{FitsSigned}
 use Rattle.std.specs.Int.{w32, w64}
-use Rattle.dk_grammar.specs.Digits.{number_of, digits_of}
-use Rattle.dk_grammar.specs.Runs.{ArePacked}
+use Rattle.dk_grammar.specs.Digits.{number_of}
 use Rattle.dk_grammar.specs.Plain.{little, complement, Plain, int32, int64, chars, IsPlain, plain_bytes, AreAlike, bit_of, AreFlags}
 use Rattle.dk_grammar.proofs.Digits.{length-digits_of, number_of-digits_of, same_digits}
 use Rattle.dk_grammar.proofs.Runs.{same_front}

@@ -8,7 +8,13 @@ use crate::fault::HybridFault;
 use crate::run::{append, read_run};
 use std::alloc::Global;
 
-/// The first `count` values of the runs at the front of the bytes, and how many bytes these runs take.
+/// The first `count` values of the runs at the front of the bytes, and how many bytes these runs take
+/// (Apache Parquet, "Run Length Encoding / Bit-Packing Hybrid"). `width` is the number of bits of a value.
+///
+/// A run is used whole: what it has past the count is padding. The value of a repeated run is given as
+/// it stands in its bytes, also where it is too large for the width. `Width` is answered where the
+/// width is over 32, `Short` where the bytes end inside a run that is needed, `OutOfMemory` where
+/// memory is refused. A run that claims more values than are wanted takes no memory for them.
 pub fn decode(
     alloc: Global,
     bytes: &[u8],

@@ -10,8 +10,10 @@ use std::alloc::{AllocError, Global};
 /// How many values a group has, and how many equal values are worth a run of their own.
 const GROUP: usize = 8;
 
-/// Runs of the values, each in at most 32 bits: eight equal values and more are one run, and others
-/// are packed in groups of eight. The last group is padded with zeros.
+/// Runs of the values, `width` bits each (Apache Parquet, "Run Length Encoding / Bit-Packing Hybrid").
+///
+/// Eight equal values and more are one run, and others are packed in groups of eight. The last group
+/// is padded with zeros, so a reader has to know how many values there are.
 pub fn encode(alloc: Global, values: &[u32], width: u8) -> Result<Vec<u8>, AllocError>
     requires narrow { width ≤ 32 }
     requires fit { All (λ value. value < 2 ^ width) values.now }

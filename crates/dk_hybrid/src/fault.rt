@@ -9,6 +9,7 @@ pub enum HybridFault {
     Width,
     /// The bytes end before the values do.
     Short,
+    /// Memory was refused.
     OutOfMemory,
 }
 
