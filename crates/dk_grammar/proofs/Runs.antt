@@ -1,6 +1,6 @@
 -- Bytes begin with at most one run, and hold the first values of runs in at most one way.
-use Rattle.std.proofs.Common.{◌≡◌, ℕ, ◌-◌, ◌*◌, ◌^◌, ◌<◌, List, [], ◌∷◌, ◌++◌, length, take, replicate, Some, refl, sym, ap, subst, ◌∙◌, arith}
-use Rattle.std.proofs.lemmas.List.{append_assoc, append_cancel_left, append_cancel_right, append-nil, take_at, length-append}
+use Rattle.std.proofs.Common.{◌≡◌, ℕ, ◌-◌, ◌*◌, ◌^◌, ◌<◌, ◌≤◌, List, [], ◌∷◌, ◌++◌, length, take, replicate, Some, refl, sym, ap, subst, ◌∙◌, arith}
+use Rattle.std.proofs.lemmas.List.{append_assoc, append_cancel_left, append_cancel_right, append-nil, take_at, length-append, length-take-le}
 use Rattle.std.specs.List.{flat_map}
 use Rattle.dk_grammar.specs.Varint.{IsVarint, varint_at}
 use Rattle.dk_grammar.specs.Digits.{number_of}
@@ -109,3 +109,13 @@ short_again width count (run ∷ runs) (other ∷ others) front rest b y first f
 pub short_has_none : (width count : ℕ) (values bytes b y : List ℕ) → EndShort width count bytes → AreFirst width count values b → bytes ≡ b ++ y → ⊥
 short_has_none width count values bytes b y short first whole =
     short_again width count short.runs first.runs short.front short.rest b y short.spelled short.fewer short.begun first.spelled first.needed (sym short.whole ∙ whole)
+
+enough_values : (count : ℕ) (runs : List Run) → AreNeeded count runs → count ≤ length (flat_map values_in runs)
+enough_values count [] needed = omega (arith, needed)
+enough_values count (run ∷ runs) needed =
+    omega (arith, enough_values (count - length (values_in run)) runs needed.1, length-append (values_in run) (flat_map values_in runs))
+
+-- the first values are as many as are wanted
+pub first_length : (width count : ℕ) (values bytes : List ℕ) → AreFirst width count values bytes → length values ≡ count
+first_length width count values bytes first =
+    ap length first.first ∙ length-take-le count (flat_map values_in first.runs) (enough_values count first.runs first.needed)

@@ -23,6 +23,7 @@ pub fn decode(
 ) -> Result<(Vec<u32>, usize), HybridFault>
     // The values are the first of the runs that so many bytes are.
     ensures found { IfOk result (λ x. (x.1 ≤ length bytes.now) × AreFirst width count x.0.items (take x.1 bytes.now)) }
+    ensures count { IfOk result (λ x. length x.0.items ≡ count) }
     // Where bytes at the front are runs with these first values, it is these that are answered.
     ensures only { width ≤ 32 → (values front rest : List ℕ) → AreFirst width count values front → bytes.now ≡ front ++ rest
         → Gives {Y = List ℕ × ℕ} (λ x. (x.0.items, x.1)) result (values, length front) }

@@ -1,5 +1,5 @@
 use Rattle.std.proofs.Common.{◌-◌, ◌<◌, ◌++◌, length, take, arith, ap, ◌∙◌}
-use Rattle.dk_grammar.proofs.Runs.{short_has_none}
+use Rattle.dk_grammar.proofs.Runs.{first_length, short_has_none}
 use Rattle.dk_hybrid.proofs.Progress.{advance, ends, stops, only, ended, Found}
 use Rattle.dk_hybrid.specs.Runs.{shown}
 use Rattle.dk_hybrid.proofs.decoding.decode.Goals as goal
@@ -23,6 +23,9 @@ found c = ends c.args.width c.args.count c.args.bytes.now c.loop-rest.values.ite
 
 pub returns-clause-found : goal.returns-clause-found
 returns-clause-found c = ((found c).within, (found c).first)
+
+pub returns-clause-count : goal.returns-clause-count
+returns-clause-count c = first_length c.args.width c.args.count c.loop-rest.values.items _ (found c).first
 
 pub returns-clause-only : goal.returns-clause-only
 returns-clause-only c narrow = only c.args.width c.args.count c.args.bytes.now c.loop-rest.values.items (length c.args.bytes.now - length c.loop-rest.rest.now) (found c)
