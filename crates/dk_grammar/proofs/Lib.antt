@@ -1,6 +1,12 @@
 pub mod Bodies
 pub mod Digits
 mod Examples
+pub mod Fronts
+pub mod NestedSpellings
 pub mod Plain
 pub mod Runs
+pub mod Spellings
+mod ThriftExamples
 pub mod Varints
+pub mod WithinLaws
+pub mod WrittenSpellings

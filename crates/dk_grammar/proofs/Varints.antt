@@ -1,8 +1,8 @@
 -- A spelling of a number is read as the number, and what is written is a spelling.
-use Rattle.std.proofs.Common.{◌≡◌, ℕ, zero, suc, ◌+◌, ◌-◌, ◌*◌, ◌<◌, ◌≤◌, ◌/◌, ◌%◌, Bool, true, false, cond, nat_lt, List, [], ◌∷◌, ◌++◌, Option, Some, None, ◌⊎◌, inl, inr, refl, sym, ap, subst, ◌∙◌, arith}
-use Rattle.std.proofs.Math.Nat.{mod-lt, div-add-mod, div-lt_self}
+use Rattle.std.proofs.Common.{◌≡◌, ℕ, zero, suc, ◌+◌, ◌-◌, ◌*◌, ◌<◌, ◌≤◌, ◌/◌, ◌%◌, Bool, true, false, nat_lt, List, [], ◌∷◌, ◌++◌, Some, ◌⊎◌, inl, inr, refl, sym, ap, arith}
+use Rattle.std.proofs.Math.Nat.{div-add-mod, div-lt_self}
 use Rattle.std.proofs.lemmas.Bool.{ltb-true, ltb-false, lt-ltb, le-ltb}
-use Rattle.dk_grammar.specs.Varint.{IsVarint, varint_at, varint_bytes, above, groups}
+use Rattle.dk_grammar.specs.Varint.{IsVarint, varint_at, varint_bytes, groups}
 
 pub varint_again : (front rest : List ℕ) (n : ℕ) → IsVarint front n → varint_at (front ++ rest) ≡ Some (n, rest)
 varint_again [] rest n v = absurd v
@@ -37,3 +37,30 @@ groups_spell (suc most) n small =
 
 pub written_is_varint : (n : ℕ) → IsVarint (varint_bytes n) n
 written_is_varint n = groups_spell n n (omega arith)
+
+-- as many groups as the number's own size are enough, and more change nothing
+more_groups : (some others n : ℕ) → n ≤ some → n ≤ others → groups some n ≡ groups others n
+unfolding groups
+more_groups zero zero n h k = refl
+more_groups zero (suc others) n h k = let e : n ≡ 0 = omega arith in rw e refl
+more_groups (suc some) zero n h k = let e : n ≡ 0 = omega arith in rw e refl
+more_groups (suc some) (suc others) n h k =
+    elim (decided (nat_lt n 128)) [
+      | inl small ↦ rw small refl
+      | inr big ↦ (
+          let large : 128 ≤ n = ltb-false n 128 big in
+          let less : n / 128 < n = div-lt_self (omega arith) (omega arith) in
+          rw big (ap (λ bytes. (128 + n % 128) ∷ bytes) (more_groups some others (n / 128) (omega arith) (omega arith))))
+    ]
+
+pub last_group_written : (n : ℕ) → n < 128 → varint_bytes n ≡ n ∷ []
+unfolding groups
+last_group_written zero h = refl
+last_group_written (suc n) h = rw (lt-ltb (suc n) 128 h) refl
+
+pub low_group_written : (n : ℕ) → 128 ≤ n → varint_bytes n ≡ (128 + n % 128) ∷ varint_bytes (n / 128)
+unfolding groups
+low_group_written zero h = absurd (omega arith)
+low_group_written (suc n) h =
+    let less : suc n / 128 < suc n = div-lt_self (omega arith) (omega arith) in
+    rw (le-ltb (suc n) 128 h) (ap (λ bytes. (128 + suc n % 128) ∷ bytes) (more_groups n (suc n / 128) (suc n / 128) (omega arith) (omega arith)))

@@ -1,4 +1,11 @@
 pub mod Digits
+pub mod Grammar
+pub mod Nested
+pub mod Passed
 pub mod Plain
 pub mod Runs
+pub mod Spelling
+pub mod Thrift
 pub mod Varint
+pub mod Within
+pub mod Zigzag

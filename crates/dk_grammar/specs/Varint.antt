@@ -1,6 +1,6 @@
 -- Numbers of any size in groups of seven bits, the lowest first (ULEB128). A byte below 128 is the last group; one from 128 on
 -- has 128 above its group, and more groups follow it.
-use Rattle.std.specs.Prelude.{◌≡◌, ℕ, zero, suc, ◌+◌, ◌-◌, ◌*◌, ◌/◌, ◌%◌, ◌<◌, ◌≤◌, nat_lt, if◌then◌else◌, Option, Some, None, List, [], ◌∷◌, ◌++◌}
+use Rattle.std.specs.Prelude.{◌≡◌, ℕ, zero, suc, ◌+◌, ◌-◌, ◌*◌, ◌/◌, ◌%◌, ◌<◌, ◌≤◌, nat_lt, if◌then◌else◌, Option, Some, None, List, [], ◌∷◌}
 
 -- the bytes are a spelling of the number
 abbrev pub IsVarint : List ℕ → ℕ → Type 0

@@ -5,3 +5,4 @@
 pub mod laws;
 pub mod plain_laws;
 pub mod run_laws;
+pub mod thrift;

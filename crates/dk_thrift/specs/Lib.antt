@@ -1,0 +1,4 @@
+pub mod Gives
+pub mod Groups
+pub mod Reading
+pub mod Writing
