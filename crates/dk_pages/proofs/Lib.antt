@@ -1,0 +1,4 @@
+pub mod Growing
+pub mod Walking
+pub mod Meanings
+pub mod PageExamples

@@ -1,0 +1,17 @@
+-- What a field's value means, from what its bytes begin with.
+use Rattle.std.proofs.Common.{◌≡◌, ℕ, true, ℤ, Some, Ok, List, refl, ap, ◌∙◌}
+use Rattle.dk_grammar.specs.Thrift.{whole_at}
+use Rattle.dk_thrift.specs.Reading.{Reading}
+use Rattle.dk_pages.specs.Structs.{Listed, is_whole, number_meaning, struct_at}
+use Rattle.dk_pages.specs.Headers.{inner, is_inner, part_meaning}
+
+pub whole_counts : (id : ℤ) (kind : ℕ) (bytes rest : List ℕ) (z : ℤ) → is_whole kind ≡ true → whole_at bytes ≡ Ok (z, rest) → number_meaning id kind bytes ≡ Ok (Some z, rest)
+whole_counts id kind bytes rest z t e = rw (t, e) refl
+
+pub inner_counts : (id : ℤ) (kind : ℕ) (bytes rest : List ℕ) (numbers : Listed ℤ) → is_inner id ≡ true → kind ≡ 12 → struct_at number_meaning bytes ≡ Ok (numbers, rest)
+    → part_meaning id kind bytes ≡ Ok (Some (inner numbers), rest)
+inner_counts id kind bytes rest numbers t k e = rw (t, k, e) refl
+
+-- the outer struct goes on where the inner one ended
+pub goes_on : (old now : Reading) (size : ℕ) (rest : List ℕ) (last : ℤ) → now ≡ record { size = size; rest = rest; last = last } → size ≡ old.size → last ≡ old.last → now ≡ record old { rest = now.rest }
+goes_on old now size rest last e s l = e ∙ rw (ap (λ reading. reading.rest) e, s, l) refl

@@ -1,0 +1,60 @@
+-- The page that stands at a place of the bytes.
+use Rattle.std.specs.Prelude.{◌≡◌, ℕ, ◌+◌, ◌-◌, nat_le, if◌then◌else◌, ℤ, Option, Some, None, option_and_then, Result, Ok, Err, List, length, drop, slice_range}
+use Rattle.dk_pqmodel.specs.declared.fault.PqFault.{PqFault}
+use Rattle.dk_pqmodel.specs.declared.fault.PqFault.TheVariants.{Broken}
+use Rattle.dk_pages.specs.Headers.{header_at}
+use Rattle.dk_pages.specs.declared.header.Header.{Header}
+use Rattle.dk_pages.specs.declared.header.PageKind.{PageKind}
+use Rattle.dk_pages.specs.declared.page.PageView.{PageView}
+
+-- what a page is, apart from where its bytes lie in memory
+pub record Page : Type 0 where
+  pub kind : PageKind
+  pub values : ℕ
+  pub encoding : ℤ
+  pub rep_code : ℤ
+  pub def_code : ℤ
+  pub rep_bytes : ℕ
+  pub def_bytes : ℕ
+  pub body : List ℕ
+  pub next : ℕ
+
+abbrev pub page_of : PageView → Page
+page_of p = record {
+  kind = p.kind;
+  values = p.values;
+  encoding = p.encoding;
+  rep_code = p.rep_code;
+  def_code = p.def_code;
+  rep_bytes = p.rep_bytes;
+  def_bytes = p.def_bytes;
+  body = p.body.now;
+  next = p.next;
+}
+
+-- the page whose body begins at a place: the bytes from there on, as many as the header says
+abbrev pub page_from : List ℕ → ℕ → Header → Page
+page_from bytes start h = record {
+  kind = h.kind;
+  values = h.values;
+  encoding = h.encoding;
+  rep_code = h.rep_code;
+  def_code = h.def_code;
+  rep_bytes = h.rep_bytes;
+  def_bytes = h.def_bytes;
+  body = slice_range bytes start (start + h.size);
+  next = start + h.size;
+}
+
+-- the body lies inside the bytes
+abbrev pub page_within : List ℕ → ℕ → Header → Option Page
+page_within bytes start h = if nat_le (start + h.size) (length bytes) then Some (page_from bytes start h) else None
+
+-- the page header that stands there, and the body right behind it
+abbrev pub page_at : List ℕ → ℕ → Option Page
+page_at bytes place = option_and_then (λ x. page_within bytes (length bytes - length x.1) x.0) (header_at (drop place bytes))
+
+-- an answer is what stands there; the one refusal says that nothing does
+abbrev pub Answers : {X Y : Type 0} → (X → Y) → Result X PqFault → Option Y → Type 0
+Answers view (Ok x) meaning = meaning ≡ Some (view x)
+Answers view (Err fault) meaning = (fault ≡ Broken) × (meaning ≡ None)

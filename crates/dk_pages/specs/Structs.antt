@@ -1,0 +1,55 @@
+-- What the fields of a struct say, as a list in the order in which they stand.
+use Rattle.std.specs.Prelude.{ℕ, zero, suc, ◌&&◌, nat_le, Bool, if◌then◌else◌, ℤ, pos, Option, Some, None, Ok, Err, List, [], ◌∷◌, length}
+use Rattle.std.specs.Ordering.{int_eq}
+use Rattle.dk_grammar.specs.Thrift.{Front, ◌>>=◌, field_at, whole_at}
+use Rattle.dk_grammar.specs.Passed.{passed_at}
+use Rattle.dk_grammar.specs.declared.thrift.Field.{Field}
+use Rattle.dk_grammar.specs.declared.thrift.Field.TheVariants.{End, Next}
+use Rattle.dk_grammar.specs.declared.thrift.Flaw.TheVariants.{Short}
+
+-- values, each under the id of its field
+abbrev pub Listed : Type 0 → Type 0
+Listed V = List (ℤ × V)
+
+-- What stands in a field, by its id, its kind and the bytes from its value on: a value that counts, or one that is passed over.
+abbrev pub Meaning : Type 0 → Type 0
+Meaning V = ℤ → ℕ → List ℕ → Front (Option V)
+
+abbrev pub under : {V : Type 0} → ℤ → Option V → Listed V → Listed V
+under id None more = more
+under id (Some value) more = (id, value) ∷ more
+
+-- a field's value, and then the fields behind it
+abbrev pub field_then : {V : Type 0} → Meaning V → (ℤ → List ℕ → Front (Listed V)) → Field → List ℕ → Front (Listed V)
+field_then meaning go_on End bytes = Ok ([], bytes)
+field_then meaning go_on (Next id kind) bytes = meaning id kind bytes >>= λ x. go_on id x.1 >>= λ more. Ok (under id x.0 more.0, more.1)
+
+-- the fields behind the field `last`; each takes at least a byte, so there are at most as many as bytes
+abbrev pub fields_from : {V : Type 0} → Meaning V → ℕ → ℤ → List ℕ → Front (Listed V)
+fields_from meaning zero last bytes = Err Short
+fields_from meaning (suc most) last bytes = field_at last bytes >>= λ x. field_then meaning (fields_from meaning most) x.0 x.1
+
+-- the fields of a struct, and the bytes behind its end
+abbrev pub struct_at : {V : Type 0} → Meaning V → List ℕ → Front (Listed V)
+struct_at meaning bytes = fields_from meaning (length bytes) (pos 0) bytes
+
+-- the kinds of whole numbers: of 16, 32 and 64 bits
+abbrev pub is_whole : ℕ → Bool
+is_whole kind = nat_le 4 kind && nat_le kind 6
+
+-- whole numbers count, whatever their width; all else is passed over
+abbrev pub number_meaning : Meaning ℤ
+number_meaning id kind bytes = if is_whole kind then (whole_at bytes >>= λ x. Ok (Some x.0, x.1)) else (passed_at kind bytes >>= λ rest. Ok (None, rest))
+
+-- the first that is there
+abbrev pub first_of_two : {V : Type 0} → Option V → Option V → Option V
+first_of_two (Some value) other = Some value
+first_of_two None other = other
+
+abbrev pub when : {V : Type 0} → Bool → V → Option V
+when b value = if b then Some value else None
+
+-- the last value under an id
+abbrev pub last_under : {V : Type 0} → ℤ → Listed V → Option V
+last_under id [] = None
+last_under id (x ∷ xs) = first_of_two (last_under id xs) (when (int_eq x.0 id) x.1)
