@@ -1,4 +1,6 @@
 pub mod Growing
-pub mod Walking
 pub mod Meanings
 pub mod PageExamples
+pub mod StructSpellings
+pub mod Taking
+pub mod Walking

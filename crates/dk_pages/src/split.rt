@@ -80,7 +80,7 @@ fn levels(greatest: u8, bytes: &[u8]) -> Option<(&[u8], &[u8])>
 }
 
 /// Bytes behind their number, and the bytes behind them.
-fn sized(bytes: &[u8]) -> Option<(&[u8], &[u8])>
+pub(crate) fn sized(bytes: &[u8]) -> Option<(&[u8], &[u8])>
     ensures { option_map (λ x. (x.0.now, x.1.now)) result ≡ sized bytes.now }
 {
     let (size, rest) = cut(4, bytes)?;
@@ -88,7 +88,7 @@ fn sized(bytes: &[u8]) -> Option<(&[u8], &[u8])>
 }
 
 /// The first `size` bytes, and those behind them.
-fn cut(size: usize, bytes: &[u8]) -> Option<(&[u8], &[u8])>
+pub(crate) fn cut(size: usize, bytes: &[u8]) -> Option<(&[u8], &[u8])>
     ensures { option_map (λ x. (x.0.now, x.1.now)) result ≡ cut size bytes.now }
 {
     if size <= bytes.len() {

@@ -5,6 +5,7 @@ ghost use Rattle.std.specs.Prelude.{◌≤◌};
 use super::*;
 use dk_pqmodel::PqFault;
 use std::process::Abort;
+use std::test::Fail;
 
 /// A data page of the first version: a header of 17 bytes, and a body of 18 with levels and one text.
 const PAGE: [u8; 35] = [
@@ -167,5 +168,54 @@ fn numbers_below_zero_are_broken(rt: HostRuntime) {
         let mut bytes = PAGE;
         bytes[place] = 0x01;
         assert!(rt; is_broken(&next_page(&bytes, 0)), "at {place}");
+    }
+}
+
+/// A page of a body, as `Dictionary::read` takes it.
+fn entries_page(values: u32, body: &[u8]) -> PageView<'_> {
+    PageView {
+        kind: PageKind::Dictionary,
+        values,
+        encoding: 0,
+        rep_code: 3,
+        def_code: 3,
+        rep_bytes: 0,
+        def_bytes: 0,
+        body,
+        next: 0,
+    }
+}
+
+#[test]
+fn a_dictionary_has_its_entries_by_place(rt: HostRuntime) -> Result<(), Fail> {
+    let alloc = rt.alloc();
+    let texts = [2, 0, 0, 0, 0x68, 0x69, 0, 0, 0, 0, 1, 0, 0, 0, 0x6a];
+    let page = entries_page(3, &texts);
+    let dictionary = Dictionary::read(alloc, &page, Physical::Bytes)?;
+    assert_eq!(rt; dictionary.entry(0), Some(&texts[4..6]));
+    assert_eq!(rt; dictionary.entry(1), Some(&texts[10..10]));
+    assert_eq!(rt; dictionary.entry(2), Some(&texts[14..15]));
+    assert_eq!(rt; dictionary.entry(3), None);
+    Ok(())
+}
+
+#[test]
+fn a_dictionary_is_exactly_its_entries(rt: HostRuntime) {
+    let alloc = rt.alloc();
+    let bytes = [1, 0, 0, 0, 2, 0, 0, 0];
+    let cases = [
+        (2, Physical::Int32, true),
+        (1, Physical::Int32, false),
+        (3, Physical::Int32, false),
+        (1, Physical::Int64, true),
+        (2, Physical::Int64, false),
+        (0, Physical::Int64, false),
+        (1, Physical::Bytes, false),
+    ];
+    for (values, kind, whole) in cases {
+        let page = entries_page(values, &bytes);
+        let answer = Dictionary::read(alloc, &page, kind);
+        assert_eq!(rt; answer.is_ok(), whole, "{values} of {kind:?}");
+        assert_eq!(rt; is_broken(&answer), !whole, "{values} of {kind:?}");
     }
 }
