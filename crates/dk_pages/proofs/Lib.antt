@@ -1,6 +1,7 @@
 pub mod Growing
 pub mod Meanings
 pub mod PageExamples
+pub mod PageSpellings
 pub mod StructSpellings
 pub mod Taking
 pub mod Walking

@@ -21,7 +21,7 @@ header_long last [] field s = absurd s
 header_long last (b ∷ bs) field s = omega arith
 
 -- each field takes a byte at least, and so does the end
-fields_long : {V : Type 0} (spells : ℤ → ℕ → List ℕ → Option V → Type 0) (n : ℕ) (last : ℤ) (front : List ℕ) (more : Listed V) → SpellsFields spells n last front more → n < length front
+pub fields_long : {V : Type 0} (spells : ℤ → ℕ → List ℕ → Option V → Type 0) (n : ℕ) (last : ℤ) (front : List ℕ) (more : Listed V) → SpellsFields spells n last front more → n < length front
 fields_long spells zero last front more s = header_long last front End s.0
 fields_long spells (suc n) last front more s =
     let behind = s.1.1.1.1.1 in

@@ -32,9 +32,9 @@ page_of p = record {
   next = p.next;
 }
 
--- the page whose body begins at a place: the bytes from there on, as many as the header says
-abbrev pub page_from : List ℕ → ℕ → Header → Page
-page_from bytes start h = record {
+-- the page of a header and a body, with the place behind it
+abbrev pub page_with : Header → List ℕ → ℕ → Page
+page_with h body next = record {
   kind = h.kind;
   values = h.values;
   encoding = h.encoding;
@@ -42,9 +42,13 @@ page_from bytes start h = record {
   def_code = h.def_code;
   rep_bytes = h.rep_bytes;
   def_bytes = h.def_bytes;
-  body = slice_range bytes start (start + h.size);
-  next = start + h.size;
+  body = body;
+  next = next;
 }
+
+-- the page whose body begins at a place: the bytes from there on, as many as the header says
+abbrev pub page_from : List ℕ → ℕ → Header → Page
+page_from bytes start h = page_with h (slice_range bytes start (start + h.size)) (start + h.size)
 
 -- the body lies inside the bytes
 abbrev pub page_within : List ℕ → ℕ → Header → Option Page

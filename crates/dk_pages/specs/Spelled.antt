@@ -1,10 +1,12 @@
 -- Which bytes are the fields of a struct, apart from reading them.
-use Rattle.std.specs.Prelude.{◌≡◌, ℕ, zero, suc, ◌==◌, ◌&&◌, IsTrue, IsFalse, ℤ, pos, Option, Some, None, List, []}
+use Rattle.std.specs.Prelude.{◌≡◌, ℕ, zero, suc, ◌==◌, ◌&&◌, IsTrue, IsFalse, ℤ, pos, Option, Some, None, List, [], ◌++◌, length}
 use Rattle.dk_grammar.specs.Grammar.{SpellsField, SpellsWhole}
 use Rattle.dk_grammar.specs.Nested.{Behind, SpellsValue}
 use Rattle.dk_grammar.specs.declared.thrift.Field.TheVariants.{End, Next}
 use Rattle.dk_pages.specs.Structs.{Listed, under, is_whole}
-use Rattle.dk_pages.specs.Headers.{Part, number, inner, is_inner}
+use Rattle.dk_pages.specs.Headers.{Part, number, inner, is_inner, fields_of, header_of}
+use Rattle.dk_pages.specs.Pages.{Page, page_with}
+use Rattle.dk_pages.specs.declared.header.Header.{Header}
 
 -- So many fields behind the field `last`, and the end. `spells` says which bytes are a field's value, and what counts of it.
 abbrev pub SpellsFields : {V : Type 0} → (ℤ → ℕ → List ℕ → Option V → Type 0) → ℕ → ℤ → List ℕ → Listed V → Type 0
@@ -30,3 +32,18 @@ SpellsPart id kind bytes None = IsFalse (is_inner id && kind == 12) × SpellsNum
 -- the bytes are a page header with these fields
 abbrev pub SpellsHeader : List ℕ → Listed Part → Type 0
 SpellsHeader bytes parts = SpellsStruct SpellsPart bytes parts
+
+-- A page stands at a place: there a header is spelled, and right behind it lies a body of the size that it says.
+pub record IsPageAt (bytes : List ℕ) (place : ℕ) (page : Page) : Type 0 where
+  pub front : List ℕ
+  pub header : List ℕ
+  pub body : List ℕ
+  pub more : List ℕ
+  pub whole : bytes ≡ front ++ (header ++ (body ++ more))
+  pub begins : length front ≡ place
+  pub parts : Listed Part
+  pub spelled : SpellsHeader header parts
+  pub said : Header
+  pub means : header_of (fields_of parts) ≡ Some said
+  pub size : length body ≡ said.size
+  pub is : page ≡ page_with said body (length (front ++ (header ++ body)))

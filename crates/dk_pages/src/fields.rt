@@ -61,6 +61,7 @@ pub(crate) fn read_fields(reader: &mut Reader<'_>) -> Result<Fields, ThriftFault
             Field::Next { id, kind } => read_part(reader, id, kind, &mut fields)?,
         }
     }
+    // Not reached, since the bytes end before there are so many fields. Callers don't look at the place.
     Err(ThriftFault::Short { at: 0 })
 }
 

@@ -64,6 +64,7 @@ pub(crate) fn read_numbers(reader: &mut Reader<'_>) -> Result<Numbers, ThriftFau
             Field::Next { id, kind } => read_number(reader, id, kind, &mut numbers)?,
         }
     }
+    // Not reached, since the bytes end before there are so many fields. Callers don't look at the place.
     Err(ThriftFault::Short { at: 0 })
 }
 

@@ -1,7 +1,8 @@
 //! The page that stands at a place of the file.
 
-ghost use Rattle.std.specs.Prelude.{◌≡◌, option_map};
-ghost use Rattle.dk_pages.specs.Pages.{Answers, page_at, page_of, page_within};
+ghost use Rattle.std.specs.Prelude.{◌≡◌, IfErr, IfOk, option_map};
+ghost use Rattle.dk_pages.specs.Pages.{Answers, Page, page_at, page_of, page_within};
+ghost use Rattle.dk_pages.specs.Spelled.{IsPageAt};
 
 use crate::fields::read_fields;
 use crate::header::{Header, PageKind, header_of};
@@ -33,7 +34,9 @@ pub struct PageView<'a> {
 /// The page whose header begins at the place `at`, in bytes from the front. `Broken` comes exactly where no page header with a body
 /// inside the bytes is spelled there, and there is no other refusal. It takes no memory.
 pub fn next_page<'a>(bytes: &'a [u8], at: usize) -> Result<PageView<'a>, PqFault>
-    ensures { Answers page_of result (page_at bytes.now at) }
+    ensures exact { Answers page_of result (page_at bytes.now at) }
+    ensures spelled { IfOk result (λ page. IsPageAt bytes.now at (page_of page)) }
+    ensures broken { IfErr result (λ _. (page : Page) → IsPageAt bytes.now at page → ⊥) }
 {
     match page(bytes, at) {
         Some(page) => Ok(page),
