@@ -23,7 +23,11 @@ answers_shows told text old new statuses.SinkFault e (t, c, m, n) = let same : t
 answers_shows told text old new (statuses.Refused refusals.Store) e h = h.1
 answers_shows told text old new (statuses.Refused refusals.OutOfMemory) e h = h.1
 answers_shows told text old new (statuses.Refused (refusals.Missing path)) e h = let m = h.0 in cc
+answers_shows told text old new (statuses.Refused (refusals.Unsupported name)) e h = let m = h.0 in cc
 answers_shows told text old new (statuses.Refused (refusals.Damaged path place)) e h = let m = h.0 in cc
+answers_shows told text old new (statuses.Refused (refusals.Limit which value)) e h = let m = h.0 in cc
+answers_shows told text old new (statuses.Refused (refusals.Invalid rule)) e h = let m = h.0 in cc
+answers_shows told text old new (statuses.Refused (refusals.Taken path)) e h = absurd h.0
 answers_shows told text old new statuses.Usage e h = h
 answers_shows told text old new statuses.SourceFault e h = h
 

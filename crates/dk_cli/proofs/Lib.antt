@@ -1,3 +1,4 @@
+pub mod FaultTexts
 pub mod History
 pub mod Pieces
 pub mod Shown

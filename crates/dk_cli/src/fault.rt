@@ -1,76 +1,143 @@
 //! What the program says of a status that isn't Done.
-ghost use Rattle.std.specs.Prelude.{◌≡◌, ◌++◌, Some, IfOk, codes, option_map, string_bytes};
-ghost use Rattle.serde_json.specs.Data.{Data};
+ghost use Rattle.std.specs.Prelude.{◌≡◌, Some, IfOk, option_map, string_bytes};
 ghost use Rattle.serde_json.specs.View.{view};
-ghost use Rattle.serde_json.specs.Written.{compact_text, has_float};
-ghost use Rattle.dk_cli.specs.Fault.{fault_text, path_object, place_object};
+ghost use Rattle.dk_cli.specs.Fault.{fault_object, fault_text, limit_object, name_object, named_object, no_object, path_object, place_object, refusal_object, rule_object, which_name};
 
 use crate::status::Status;
-use dk_engine::Refusal;
+use dk_engine::{Refusal, Which};
 use dk_model::Text;
 use serde_json::{Map, Value};
 use std::alloc::{AllocError, Global};
 
+/// `{}`.
+#[tactic(auto, unfolding(crate::specs::Fault::no_object, dk_model::specs::Shown::object_with))]
+fn no_fields(alloc: Global) -> Value
+    ensures { view result ≡ no_object }
+{
+    Value::from(Map::new(alloc))
+}
+
 /// `{"path":P}`.
 #[tactic(auto, unfolding(crate::specs::Fault::path_object, dk_model::specs::Shown::object_with))]
-fn path_text(alloc: Global, path: &Text) -> Result<String, AllocError>
-    ensures { IfOk result (λ text. string_bytes text ≡ compact_text (path_object path.now)) }
+fn path_fields(alloc: Global, path: &Text) -> Result<Value, AllocError>
+    ensures { IfOk result (λ fields. view fields ≡ path_object path.now) }
 {
     let mut fields = Map::new(alloc);
     let path = Value::try_from_str(alloc, path.as_str())?;
     serde_json::put(&mut fields, alloc, "path", path)?;
-    Value::from(fields).to_string(alloc)
+    Ok(Value::from(fields))
 }
 
 /// `{"path":P,"place":N}`.
 #[tactic(auto, unfolding(crate::specs::Fault::place_object, dk_model::specs::Shown::object_with))]
-fn place_text(alloc: Global, path: &Text, place: u64) -> Result<String, AllocError>
-    ensures { IfOk result (λ text. string_bytes text ≡ compact_text (place_object path.now place)) }
+fn place_fields(alloc: Global, path: &Text, place: u64) -> Result<Value, AllocError>
+    ensures { IfOk result (λ fields. view fields ≡ place_object path.now place) }
 {
     let mut fields = Map::new(alloc);
     let path = Value::try_from_str(alloc, path.as_str())?;
     serde_json::put(&mut fields, alloc, "path", path)?;
     serde_json::put(&mut fields, alloc, "place", Value::from(place))?;
-    Value::from(fields).to_string(alloc)
+    Ok(Value::from(fields))
 }
 
-/// A text between two others.
-fn enclosed(alloc: Global, before: &str, text: &str, after: &str) -> Result<String, AllocError>
-    ensures { IfOk result (λ whole. string_bytes whole ≡ before.now ++ text.now ++ after.now) }
+/// `{"name":N}`.
+#[tactic(auto, unfolding(crate::specs::Fault::name_object, dk_model::specs::Shown::object_with))]
+fn name_fields(alloc: Global, name: &Text) -> Result<Value, AllocError>
+    ensures { IfOk result (λ fields. view fields ≡ name_object name.now) }
 {
-    let mut whole = String::from_str(alloc, before)?;
-    whole.push_str(text)?;
-    whole.push_str(after)?;
-    Ok(whole)
+    let mut fields = Map::new(alloc);
+    let name = Value::try_from_str(alloc, name.as_str())?;
+    serde_json::put(&mut fields, alloc, "name", name)?;
+    Ok(Value::from(fields))
 }
 
-fn refusal_line(alloc: Global, refusal: &Refusal) -> Result<String, AllocError>
-    ensures { IfOk result (λ line. Some (string_bytes line) ≡ fault_text (Status.Refused refusal.now)) }
+/// The name of what has a limit.
+fn which_text(which: Which) -> &'static str
+    ensures { result.now ≡ which_name which }
+{
+    match which {
+        Which::Input => "Input",
+        Which::InputLine => "InputLine",
+        Which::InputLines => "InputLines",
+        Which::Version => "Version",
+    }
+}
+
+/// `{"value":N,"which":W}`.
+#[tactic(auto, unfolding(crate::specs::Fault::limit_object, dk_model::specs::Shown::object_with))]
+fn limit_fields(alloc: Global, value: u64, which: &str) -> Result<Value, AllocError>
+    ensures { IfOk result (λ fields. view fields ≡ limit_object value which.now) }
+{
+    let mut fields = Map::new(alloc);
+    serde_json::put(&mut fields, alloc, "value", Value::from(value))?;
+    let which = Value::try_from_str(alloc, which)?;
+    serde_json::put(&mut fields, alloc, "which", which)?;
+    Ok(Value::from(fields))
+}
+
+/// `{"rule":N}`.
+#[tactic(auto, unfolding(crate::specs::Fault::rule_object, dk_model::specs::Shown::object_with))]
+fn rule_fields(alloc: Global, rule: u8) -> Result<Value, AllocError>
+    ensures { IfOk result (λ fields. view fields ≡ rule_object rule) }
+{
+    let mut fields = Map::new(alloc);
+    serde_json::put(&mut fields, alloc, "rule", Value::from(rule))?;
+    Ok(Value::from(fields))
+}
+
+/// `{"NAME":{..}}`.
+#[tactic(auto, unfolding(crate::specs::Fault::named_object, dk_model::specs::Shown::object_with))]
+fn named(alloc: Global, name: &str, said: Value) -> Result<Value, AllocError>
+    ensures { IfOk result (λ whole. view whole ≡ named_object name.now (view said)) }
+{
+    let mut whole = Map::new(alloc);
+    serde_json::put(&mut whole, alloc, name, said)?;
+    Ok(Value::from(whole))
+}
+
+fn refusal_value(alloc: Global, refusal: &Refusal) -> Result<Value, AllocError>
+    ensures { IfOk result (λ value. view value ≡ refusal_object refusal.now) }
 {
     match refusal {
-        Refusal::Store => String::from_str(alloc, "{\"store\":{}}"),
-        Refusal::Missing { path } => {
-            let text = path_text(alloc, path)?;
-            enclosed(alloc, "{\"missing\":", text.as_str(), "}")
-        }
+        Refusal::Store => named(alloc, "store", no_fields(alloc)),
+        Refusal::Missing { path } => named(alloc, "missing", path_fields(alloc, path)?),
+        Refusal::Unsupported { name } => named(alloc, "unsupported", name_fields(alloc, name)?),
         Refusal::Damaged { path, place } => {
-            let text = place_text(alloc, path, *place)?;
-            enclosed(alloc, "{\"damaged\":", text.as_str(), "}")
+            named(alloc, "damaged", place_fields(alloc, path, *place)?)
         }
-        Refusal::OutOfMemory => String::from_str(alloc, "{\"outOfMemory\":{}}"),
+        Refusal::Limit { which, value } => {
+            named(
+                alloc,
+                "limit",
+                limit_fields(alloc, *value, which_text(*which))?,
+            )
+        }
+        Refusal::OutOfMemory => named(alloc, "outOfMemory", no_fields(alloc)),
+        Refusal::Invalid { rule } => named(alloc, "invalid", rule_fields(alloc, *rule)?),
+        Refusal::Taken { path } => named(alloc, "taken", path_fields(alloc, path)?),
     }
+}
+
+/// The answer object of a status; None for Done.
+fn fault_value(alloc: Global, status: &Status) -> Result<Option<Value>, AllocError>
+    ensures { IfOk result (λ value. option_map view value ≡ fault_object status.now) }
+{
+    let value = match status {
+        Status::Done => return Ok(None),
+        Status::Usage => named(alloc, "usage", no_fields(alloc))?,
+        Status::SinkFault => named(alloc, "sink", no_fields(alloc))?,
+        Status::SourceFault => named(alloc, "source", no_fields(alloc))?,
+        Status::Refused(refusal) => refusal_value(alloc, refusal)?,
+    };
+    Ok(Some(value))
 }
 
 /// The answer object of a status as one compact line of JSON, without a newline; None for Done.
 pub fn fault_line(alloc: Global, status: &Status) -> Result<Option<String>, AllocError>
     ensures { IfOk result (λ line. option_map string_bytes line ≡ fault_text status.now) }
 {
-    let line = match status {
-        Status::Done => return Ok(None),
-        Status::Usage => String::from_str(alloc, "{\"usage\":{}}")?,
-        Status::SinkFault => String::from_str(alloc, "{\"sink\":{}}")?,
-        Status::SourceFault => String::from_str(alloc, "{\"source\":{}}")?,
-        Status::Refused(refusal) => refusal_line(alloc, refusal)?,
-    };
-    Ok(Some(line))
+    match fault_value(alloc, status)? {
+        None => Ok(None),
+        Some(value) => Ok(Some(value.to_string(alloc)?)),
+    }
 }

@@ -1,5 +1,5 @@
 //! The top call.
-ghost use Rattle.std.specs.Prelude.{◌≡◌, ◌≤◌, ◌-◌, ◌↔◌, List, Some, IfSome, IsTrue, length, string_bytes};
+ghost use Rattle.std.specs.Prelude.{◌≡◌, ◌≤◌, ◌-◌, ◌↔◌, List, ℕ, Some, IfSome, IsTrue, length, string_bytes};
 ghost use Rattle.dk_store.specs.Causes.{Rose};
 ghost use Rattle.dk_model.specs.State.{fold};
 ghost use Rattle.dk_model.specs.declared.action.Action.{Action};
@@ -46,6 +46,7 @@ fn show_command<O: Sink>(alloc: Global, engine: &mut Engine, out: &mut O, now: i
     ensures source { result ≡ Status.SourceFault → ⊥ }
     ensures sink { result ≡ Status.SinkFault → Rose (O.sink_faults out.old) (O.sink_faults out.new) }
     ensures store { result ≡ Status.Refused Refusal.Store → Rose (store_faults (held engine.old.store)) (store_faults (held engine.new.store)) }
+    ensures taken { (path : List ℕ) → result ≡ Status.Refused (Refusal.Taken path) → ⊥ }
     ensures same { told (held engine.new.store) ≡ told (held engine.old.store) }
     ensures clashes { clashes (held engine.new.store) ≡ clashes (held engine.old.store) }
     ensures limits { engine.new.limits ≡ engine.old.limits }
@@ -85,6 +86,7 @@ pub fn run<I: Source, O: Sink>(
     ensures source { result ≡ Status.SourceFault → ⊥ }
     ensures sink { result ≡ Status.SinkFault → Rose (O.sink_faults out.old) (O.sink_faults out.new) }
     ensures store { result ≡ Status.Refused Refusal.Store → Rose (store_faults (held engine.old.store)) (store_faults (held engine.new.store)) }
+    ensures taken { (path : List ℕ) → result ≡ Status.Refused (Refusal.Taken path) → ⊥ }
     ensures answer { IsShow words.now → IfSome (told (held engine.old.store))
         (λ events. Answers (show events (cut_of now)) (O.taken out.old) result (O.taken out.new)) }
     ensures whole_log { IsShow words.now → IfSome (told (held engine.old.store))

@@ -1,5 +1,5 @@
 //! The command `show`: the newest version of the table, as text.
-ghost use Rattle.std.specs.Prelude.{◌≡◌, ◌≤◌, Err, IfSome};
+ghost use Rattle.std.specs.Prelude.{◌≡◌, ◌≤◌, List, ℕ, Err, IfSome};
 ghost use Rattle.dk_store.specs.Causes.{Rose};
 ghost use Rattle.dk_engine.specs.Answers.{Gives};
 ghost use Rattle.dk_engine.specs.Held.{held};
@@ -15,6 +15,7 @@ use std::alloc::Global;
 fn text_of(alloc: Global, snapshot: &Snapshot, cut: i64) -> Result<Vec<u8>, Refusal>
     ensures means { Gives (λ text. text.items) result (text_of_snapshot snapshot.now cut) }
     ensures store { result ≡ Err Refusal.Store → ⊥ }
+    ensures taken { (path : List ℕ) → result ≡ Err (Refusal.Taken path) → ⊥ }
 {
     Ok(shown_text(alloc, snapshot.version, &snapshot.state, cut)?)
 }
@@ -26,6 +27,7 @@ fn open(alloc: Global, engine: &mut Engine) -> Result<Snapshot, Refusal>
     ensures limits { engine.new.limits ≡ engine.old.limits }
     ensures later { store_faults (held engine.old.store) ≤ store_faults (held engine.new.store) }
     ensures store { result ≡ Err Refusal.Store → Rose (store_faults (held engine.old.store)) (store_faults (held engine.new.store)) }
+    ensures taken { (path : List ℕ) → result ≡ Err (Refusal.Taken path) → ⊥ }
     ensures means { IfSome (told (held engine.old.store)) (λ events. Gives (λ snapshot. snapshot) result (newest events)) }
 {
     open_newest(alloc, &mut *engine.store, &mut *engine.json)
@@ -38,6 +40,7 @@ pub(crate) fn show_text(alloc: Global, engine: &mut Engine, cut: i64) -> Result<
     ensures limits { engine.new.limits ≡ engine.old.limits }
     ensures later { store_faults (held engine.old.store) ≤ store_faults (held engine.new.store) }
     ensures store { result ≡ Err Refusal.Store → Rose (store_faults (held engine.old.store)) (store_faults (held engine.new.store)) }
+    ensures taken { (path : List ℕ) → result ≡ Err (Refusal.Taken path) → ⊥ }
     ensures means { IfSome (told (held engine.old.store)) (λ events. Gives (λ text. text.items) result (show events cut)) }
 {
     match open(alloc, engine) {

@@ -32,8 +32,12 @@ impl Status {
             Status::SourceFault => 11,
             Status::Refused(Refusal::Store) => 3,
             Status::Refused(Refusal::Missing { .. }) => 4,
+            Status::Refused(Refusal::Unsupported { .. }) => 5,
             Status::Refused(Refusal::Damaged { .. }) => 7,
+            Status::Refused(Refusal::Limit { .. }) => 8,
             Status::Refused(Refusal::OutOfMemory) => 9,
+            Status::Refused(Refusal::Invalid { .. }) => 12,
+            Status::Refused(Refusal::Taken { .. }) => 14,
         }
     }
 }

@@ -9,12 +9,17 @@ abbrev pub refusal_of : StoreError → Refusal
 refusal_of errors.Failed = refusals.Store
 refusal_of errors.OutOfMemory = refusals.OutOfMemory
 
--- The refusal is the meaning's. That of the store has its cause in the count of faults, and want of memory is free.
+-- The refusal is the meaning's. That of the store has its cause in the count of faults, and want of memory is free. No meaning has that
+-- a path was taken: its cause is the count of clashes, so a call that makes objects says of its own when that comes.
 abbrev pub Refuses : {Y : Type 0} → Refusal → Result Y Refusal → Type 0
 Refuses refusals.Store meant = Unit {0}
 Refuses refusals.OutOfMemory meant = Unit {0}
 Refuses (refusals.Missing path) meant = meant ≡ Err (refusals.Missing path)
+Refuses (refusals.Unsupported name) meant = meant ≡ Err (refusals.Unsupported name)
 Refuses (refusals.Damaged path place) meant = meant ≡ Err (refusals.Damaged path place)
+Refuses (refusals.Limit which value) meant = meant ≡ Err (refusals.Limit which value)
+Refuses (refusals.Invalid rule) meant = meant ≡ Err (refusals.Invalid rule)
+Refuses (refusals.Taken path) meant = ⊥
 
 -- what a call answered, seen by `view`, is what is meant
 abbrev pub Gives : {X Y : Type 0} → (X → Y) → Result X Refusal → Result Y Refusal → Type 0

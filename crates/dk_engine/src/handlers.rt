@@ -1,7 +1,9 @@
 //! The handlers of formats, as interfaces: any of them serves every command.
-ghost use Rattle.std.specs.Prelude.{◌≡◌, IfOk};
+ghost use Rattle.std.specs.Prelude.{◌≡◌, IfOk, OnOk};
+ghost use Rattle.std.specs.List.{AllByRecursion};
 ghost use Rattle.dk_model.specs.CommitText.{reading_of};
 ghost use Rattle.dk_model.specs.LineFaults.{GivesLines};
+ghost use Rattle.dk_model.specs.ReadBack.{IsSound};
 ghost use Rattle.dk_model.specs.Written.{text_of};
 
 use dk_model::{Action, Commit, LineFault};
@@ -13,7 +15,8 @@ pub trait JsonHandler: Drop {
     fn read_commit(&mut self, alloc: Global, bytes: &[u8]) -> Result<Commit, LineFault>
         ensures { GivesLines result (reading_of bytes.now) };
 
-    /// The text of these actions: one compact line each.
+    /// The text of these actions: one compact line each. What is written is sound, as the types of its parts keep.
     fn write_actions(&mut self, alloc: Global, actions: &[Action]) -> Result<Vec<u8>, AllocError>
-        ensures { IfOk result (λ text. text.items ≡ text_of actions.now) };
+        ensures text { IfOk result (λ text. text.items ≡ text_of actions.now) }
+        ensures sound { OnOk result (AllByRecursion IsSound actions.now) };
 }

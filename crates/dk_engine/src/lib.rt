@@ -9,5 +9,5 @@ mod refusal;
 
 pub use engine::Engine;
 pub use handlers::JsonHandler;
-pub use limits::Limits;
+pub use limits::{Limits, Which};
 pub use refusal::Refusal;

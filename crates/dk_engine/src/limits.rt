@@ -1,4 +1,4 @@
-//! How much of the input is read.
+//! How much of the input is read, and what else has a limit.
 
 /// How much of the input is read. Main takes the usual limits; a test may set smaller ones.
 #[derive(Clone, Copy, Debug, PartialEq, Eq)]
@@ -9,6 +9,19 @@ pub struct Limits {
     pub line: u64,
     /// The lines of the input.
     pub lines: u64,
+}
+
+/// What has a limit.
+#[derive(Clone, Copy, Debug, PartialEq, Eq)]
+pub enum Which {
+    /// The bytes of the input.
+    Input,
+    /// The bytes of a line of the input.
+    InputLine,
+    /// The lines of the input.
+    InputLines,
+    /// The version of a commit: none comes after 9,223,372,036,854,775,807.
+    Version,
 }
 
 impl Limits {

@@ -72,7 +72,11 @@ refused_survey : (events : List Told) (refusal : Refusal) → Surveys events (Er
 refused_survey events refusals.Store found = tt
 refused_survey events refusals.OutOfMemory found = tt
 refused_survey events (refusals.Missing path) found = absurd found
+refused_survey events (refusals.Unsupported name) found = absurd found
 refused_survey events (refusals.Damaged path place) found = absurd found
+refused_survey events (refusals.Limit which value) found = absurd found
+refused_survey events (refusals.Invalid rule) found = absurd found
+refused_survey events (refusals.Taken path) found = absurd found
 
 pub survey_refused : (told : Option (List Told)) (refusal : Refusal) → IfSome told (λ events. Surveys events (Err refusal)) → IfSome told (λ events. Gives (λ (snapshot : Snapshot). snapshot) (Err refusal) (newest events))
 survey_refused None refusal found = tt

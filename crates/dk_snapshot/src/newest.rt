@@ -1,5 +1,5 @@
 //! The newest version of the table.
-ghost use Rattle.std.specs.Prelude.{◌≡◌, ◌≤◌, ◌<◌, ◌^◌, ◌-◌, Err, All, IfOk, IfSome, length, reverse, vec_len};
+ghost use Rattle.std.specs.Prelude.{◌≡◌, ◌≤◌, ◌<◌, ◌^◌, ◌-◌, Err, All, IfOk, IfSome, length, reverse, vec_len, List, ℕ};
 ghost use Rattle.dk_store.specs.Causes.{Rose};
 ghost use Rattle.dk_model.specs.State.{fold};
 ghost use Rattle.dk_engine.specs.Answers.{Gives};
@@ -39,6 +39,7 @@ fn read_newest(
     ensures clashes { clashes store.new ≡ clashes store.old }
     ensures later { store_faults store.old ≤ store_faults store.new }
     ensures store { result ≡ Err Refusal.Store → Rose (store_faults store.old) (store_faults store.new) }
+    ensures taken { (path : List ℕ) → result ≡ Err (Refusal.Taken path) → ⊥ }
     ensures means { IfSome (told store.old) (λ events. ListsVersions events versions.now → Gives (λ found. reverse found.items) result (commits_of_newest events)) }
     ensures some { IfOk result (λ found. (0 < vec_len found) × (vec_len found ≤ 2 ^ 63)) }
 {
@@ -52,6 +53,7 @@ fn read_newest(
 fn snapshot_of(alloc: Global, version: u64, state: TableState) -> Result<Snapshot, Refusal>
     ensures means { Gives (λ snapshot. snapshot) result (whole_state version state) }
     ensures store { result ≡ Err Refusal.Store → ⊥ }
+    ensures taken { (path : List ℕ) → result ≡ Err (Refusal.Taken path) → ⊥ }
 {
     if state.protocol.is_some() && state.metadata.is_some() {
         Ok(Snapshot { version, state })
@@ -68,6 +70,7 @@ fn snapshot_of_commits(alloc: Global, newest_first: Vec<Commit>) -> Result<Snaps
     requires { 0 < vec_len newest_first }
     ensures means { Gives (λ snapshot. snapshot) result (whole_state (length newest_first.items - 1) (fold (reverse newest_first.items))) }
     ensures store { result ≡ Err Refusal.Store → ⊥ }
+    ensures taken { (path : List ℕ) → result ≡ Err (Refusal.Taken path) → ⊥ }
 {
     let version = newest_first.len() as u64 - 1;
     let state = fold_all(alloc, newest_first)?;
@@ -86,6 +89,7 @@ pub fn open_listed(
     ensures clashes { clashes store.new ≡ clashes store.old }
     ensures later { store_faults store.old ≤ store_faults store.new }
     ensures store { result ≡ Err Refusal.Store → Rose (store_faults store.old) (store_faults store.new) }
+    ensures taken { (path : List ℕ) → result ≡ Err (Refusal.Taken path) → ⊥ }
     ensures means { IfSome (told store.old) (λ events. ListsVersions events versions.now → Gives (λ snapshot. snapshot) result (newest events)) }
     ensures small { IfOk result (λ snapshot. snapshot.version < 2 ^ 63) }
 {
@@ -105,6 +109,7 @@ pub fn open_newest(
     ensures clashes { clashes store.new ≡ clashes store.old }
     ensures later { store_faults store.old ≤ store_faults store.new }
     ensures store { result ≡ Err Refusal.Store → Rose (store_faults store.old) (store_faults store.new) }
+    ensures taken { (path : List ℕ) → result ≡ Err (Refusal.Taken path) → ⊥ }
     ensures means { IfSome (told store.old) (λ events. Gives (λ snapshot. snapshot) result (newest events)) }
     ensures small { IfOk result (λ snapshot. snapshot.version < 2 ^ 63) }
 {

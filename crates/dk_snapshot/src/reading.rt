@@ -1,5 +1,5 @@
 //! Reading the log of a store: its listing, and its commits from the newest to the oldest.
-ghost use Rattle.std.specs.Prelude.{◌≡◌, ◌≤◌, ◌<◌, ◌^◌, Err, IfOk, IfSome, All, reverse, string_bytes, map, option_map, vec_len, codes, [], IsErrOf};
+ghost use Rattle.std.specs.Prelude.{◌≡◌, ◌≤◌, ◌<◌, ◌^◌, Err, IfOk, IfSome, All, reverse, string_bytes, map, option_map, vec_len, codes, [], IsErrOf, List, ℕ};
 ghost use Rattle.dk_store.specs.Objects.{content};
 ghost use Rattle.dk_store.specs.Listing.{listing};
 ghost use Rattle.dk_store.specs.Views.{listed};
@@ -33,6 +33,7 @@ pub fn survey(alloc: Global, store: &mut dyn Store) -> Result<Vec<u64>, Refusal>
     ensures clashes { clashes store.new ≡ clashes store.old }
     ensures later { store_faults store.old ≤ store_faults store.new }
     ensures store { result ≡ Err Refusal.Store → Rose (store_faults store.old) (store_faults store.new) }
+    ensures taken { (path : List ℕ) → result ≡ Err (Refusal.Taken path) → ⊥ }
     ensures found { IfSome (told store.old) (λ events. Surveys events result) }
     ensures small { IfOk result (λ versions. All (λ version. version < 2 ^ 63) versions.items) }
 {
@@ -49,6 +50,7 @@ fn read_bytes(
 ) -> Result<Commit, Refusal>
     ensures means { Gives (λ commit. commit) result (meant (string_bytes path) (reading_of bytes.now)) }
     ensures store { result ≡ Err Refusal.Store → ⊥ }
+    ensures taken { (path : List ℕ) → result ≡ Err (Refusal.Taken path) → ⊥ }
 {
     match json.read_commit(alloc, bytes) {
         Ok(commit) => Ok(commit),
@@ -69,6 +71,7 @@ fn read_object(
 ) -> Result<Commit, Refusal>
     ensures means { Gives (λ commit. commit) result (commit_of_object (string_bytes path) (option_map (λ bytes. bytes.items) object)) }
     ensures store { result ≡ Err Refusal.Store → ⊥ }
+    ensures taken { (path : List ℕ) → result ≡ Err (Refusal.Taken path) → ⊥ }
 {
     match object {
         Some(bytes) => read_bytes(alloc, json, path, &bytes),
@@ -101,6 +104,7 @@ fn read_version(
     ensures clashes { clashes store.new ≡ clashes store.old }
     ensures later { store_faults store.old ≤ store_faults store.new }
     ensures store { result ≡ Err Refusal.Store → Rose (store_faults store.old) (store_faults store.new) }
+    ensures taken { (path : List ℕ) → result ≡ Err (Refusal.Taken path) → ⊥ }
     ensures means { IfSome (told store.old) (λ events. Gives (λ commit. commit) result (commit_at events version)) }
 {
     let path = commit_path(alloc, version)?;
@@ -120,6 +124,7 @@ pub(crate) fn read_below(
     ensures clashes { clashes store.new ≡ clashes store.old }
     ensures later { store_faults store.old ≤ store_faults store.new }
     ensures store { result ≡ Err Refusal.Store → Rose (store_faults store.old) (store_faults store.new) }
+    ensures taken { (path : List ℕ) → result ≡ Err (Refusal.Taken path) → ⊥ }
     ensures means { IfSome (told store.old) (λ events. Gives (λ found. reverse found.items) result (commits_below events count)) }
     ensures all { IfOk result (λ found. vec_len found ≡ count) }
 {

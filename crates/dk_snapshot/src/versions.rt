@@ -1,5 +1,5 @@
 //! Which versions a listing of the log names, and which commits make up the newest.
-ghost use Rattle.std.specs.Prelude.{◌≡◌, ◌<◌, ◌≤◌, ◌^◌, Err, ◌==◌, ℕ, IfOk, IfSome, All, map};
+ghost use Rattle.std.specs.Prelude.{◌≡◌, ◌<◌, ◌≤◌, ◌^◌, Err, ◌==◌, ℕ, IfOk, IfSome, All, map, List};
 ghost use Rattle.dk_store.specs.Views.{listed};
 ghost use Rattle.dk_engine.specs.Answers.{Gives};
 ghost use Rattle.dk_paths.specs.Names.{commit_path};
@@ -94,6 +94,7 @@ pub(crate) fn plan(alloc: Global, versions: &[u64]) -> Result<u64, Refusal>
     ensures means { Gives (λ count. count) result (count_from (has_version versions.now) (greatest versions.now)) }
     ensures small { IfOk result (λ count. (0 < count) × (count ≤ 2 ^ 63)) }
     ensures store { result ≡ Err Refusal.Store → ⊥ }
+    ensures taken { (path : List ℕ) → result ≡ Err (Refusal.Taken path) → ⊥ }
 {
     let Some(latest) = latest(versions) else {
         return Err(missing(alloc, 0)?);
