@@ -1,11 +1,12 @@
 //! The newest version of the table.
-ghost use Rattle.std.specs.Prelude.{◌≡◌, ◌≤◌, ◌<◌, ◌^◌, ◌-◌, Err, All, IfOk, IfSome, length, reverse, vec_len, List, ℕ};
+ghost use Rattle.std.specs.Prelude.{◌≡◌, ◌≤◌, ◌<◌, ◌^◌, ◌-◌, Err, Some, All, IfOk, IfSome, length, reverse, vec_len, List, ℕ};
 ghost use Rattle.dk_store.specs.Causes.{Rose};
 ghost use Rattle.dk_model.specs.State.{fold};
 ghost use Rattle.dk_engine.specs.Answers.{Gives};
 ghost use Rattle.dk_snapshot.specs.Listed.{ListsVersions};
 ghost use Rattle.dk_snapshot.specs.Log.{commits_of_newest};
 ghost use Rattle.dk_snapshot.specs.Newest.{whole_state, newest};
+ghost use Rattle.dk_snapshot.specs.Versions.{greatest};
 
 use crate::reading::{read_below, survey};
 use crate::snapshot::Snapshot;
@@ -42,6 +43,7 @@ fn read_newest(
     ensures taken { (path : List ℕ) → result ≡ Err (Refusal.Taken path) → ⊥ }
     ensures means { IfSome (told store.old) (λ events. ListsVersions events versions.now → Gives (λ found. reverse found.items) result (commits_of_newest events)) }
     ensures some { IfOk result (λ found. (0 < vec_len found) × (vec_len found ≤ 2 ^ 63)) }
+    ensures latest { IfOk result (λ found. Some (vec_len found - 1) ≡ greatest versions.now) }
 {
     match plan(alloc, versions) {
         Err(refusal) => Err(refusal),
@@ -52,6 +54,7 @@ fn read_newest(
 /// The snapshot whose state is this one, which has to have both a protocol and metadata.
 fn snapshot_of(alloc: Global, version: u64, state: TableState) -> Result<Snapshot, Refusal>
     ensures means { Gives (λ snapshot. snapshot) result (whole_state version state) }
+    ensures version { IfOk result (λ snapshot. snapshot.version ≡ version) }
     ensures store { result ≡ Err Refusal.Store → ⊥ }
     ensures taken { (path : List ℕ) → result ≡ Err (Refusal.Taken path) → ⊥ }
 {
@@ -69,6 +72,7 @@ fn snapshot_of(alloc: Global, version: u64, state: TableState) -> Result<Snapsho
 fn snapshot_of_commits(alloc: Global, newest_first: Vec<Commit>) -> Result<Snapshot, Refusal>
     requires { 0 < vec_len newest_first }
     ensures means { Gives (λ snapshot. snapshot) result (whole_state (length newest_first.items - 1) (fold (reverse newest_first.items))) }
+    ensures version { IfOk result (λ snapshot. snapshot.version ≡ vec_len newest_first - 1) }
     ensures store { result ≡ Err Refusal.Store → ⊥ }
     ensures taken { (path : List ℕ) → result ≡ Err (Refusal.Taken path) → ⊥ }
 {
@@ -91,6 +95,7 @@ pub fn open_listed(
     ensures store { result ≡ Err Refusal.Store → Rose (store_faults store.old) (store_faults store.new) }
     ensures taken { (path : List ℕ) → result ≡ Err (Refusal.Taken path) → ⊥ }
     ensures means { IfSome (told store.old) (λ events. ListsVersions events versions.now → Gives (λ snapshot. snapshot) result (newest events)) }
+    ensures latest { IfOk result (λ snapshot. Some snapshot.version ≡ greatest versions.now) }
     ensures small { IfOk result (λ snapshot. snapshot.version < 2 ^ 63) }
 {
     match read_newest(alloc, store, json, versions) {

@@ -1,5 +1,5 @@
 //! Which versions a listing of the log names, and which commits make up the newest.
-ghost use Rattle.std.specs.Prelude.{◌≡◌, ◌<◌, ◌≤◌, ◌^◌, Err, ◌==◌, ℕ, IfOk, IfSome, All, map, List};
+ghost use Rattle.std.specs.Prelude.{◌≡◌, ◌<◌, ◌≤◌, ◌^◌, ◌-◌, Err, Some, ◌==◌, ℕ, IfOk, IfSome, All, map, List};
 ghost use Rattle.dk_store.specs.Views.{listed};
 ghost use Rattle.dk_engine.specs.Answers.{Gives};
 ghost use Rattle.dk_paths.specs.Names.{commit_path};
@@ -93,6 +93,7 @@ pub(crate) fn plan(alloc: Global, versions: &[u64]) -> Result<u64, Refusal>
     requires { All (λ version. version < 2 ^ 63) versions.now }
     ensures means { Gives (λ count. count) result (count_from (has_version versions.now) (greatest versions.now)) }
     ensures small { IfOk result (λ count. (0 < count) × (count ≤ 2 ^ 63)) }
+    ensures latest { IfOk result (λ count. Some (count - 1) ≡ greatest versions.now) }
     ensures store { result ≡ Err Refusal.Store → ⊥ }
     ensures taken { (path : List ℕ) → result ≡ Err (Refusal.Taken path) → ⊥ }
 {

@@ -1,0 +1,6 @@
+pub mod Next
+pub mod ReadHistory
+pub mod Readable
+pub mod RuleWalks
+pub mod Starts
+pub mod Written

@@ -1,0 +1,76 @@
+-- The text of a commit that keeps the rules is read back as that commit.
+use Rattle.std.proofs.Common.{◌≡◌, ℕ, ℤ, suc, ◌+◌, ◌<◌, ◌≤◌, ◌^◌, Bool, true, false, not, ◌&&◌, List, [], ◌∷◌, ◌++◌, length, Some, None, refl, ap, ap₂, sym, ◌∙◌, true≢false, arith, filter_map}
+use Rattle.std.specs.Prelude.{Option, ◌==◌, ◌||◌, nat_le, if◌then◌else◌}
+use Rattle.std.specs.List.{AllByRecursion, list_all}
+use Rattle.std.specs.Str.{IsUtf8}
+use Rattle.std.proofs.lemmas.Bool.{and_parts, eqb-true, leb-true}
+use Rattle.dk_model.specs.declared.action.Protocol.{Protocol}
+use Rattle.dk_model.specs.declared.action.Action.{Action}
+use Rattle.dk_model.specs.declared.action.Action.TheVariants as action
+use Rattle.dk_model.specs.declared.state.TableState.{TableState}
+use Rattle.dk_model.specs.CommitText.{commit_of}
+use Rattle.dk_model.specs.Ranges.{IsWhole, IsProtocolInRange}
+use Rattle.dk_model.specs.ReadBack.{IsSound, IsReadable, own_info, written_of}
+use Rattle.dk_model.specs.Written.{own_info_line, text_of}
+use Rattle.dk_model.proofs.LinesBack.{own_reads_back, writable}
+use Rattle.dk_lawful.specs.Rules.{protocol_in, info_in, has_first_form, is_not_lower, keeps_heads, keeps_info, keeps_paths_apart, keeps_protocol, IsValidNext}
+use Rattle.dk_txn.specs.Commits.{ArePlain}
+
+-- the tests in a row that no rule broken passes
+passed : (kept : Bool) (rule : ℕ) (rest : Option ℕ) → (if not kept then Some rule else rest) ≡ None → (kept ≡ true) × (rest ≡ None)
+passed true rule rest none = (refl, none)
+passed false rule rest none = absurd (let no : ◌≡◌ {A = Option ℕ} (Some rule) None = none in cc)
+
+one_or_two : (version : ℕ) → (version == 1 || version == 2) ≡ true → version < 2 ^ 31
+one_or_two version is = by (version == 1) (version == 2) refl refl is
+  where
+    by : (one two : Bool) → (version == 1) ≡ one → (version == 2) ≡ two → (one || two) ≡ true → version < 2 ^ 31
+    by true two first second is = let same : version ≡ 1 = eqb-true version 1 first in omega arith
+    by false true first second is = let same : version ≡ 2 = eqb-true version 2 second in omega arith
+    by false false first second is = absurd (true≢false (sym is))
+
+form_in_range : (before : Option Protocol) (p : Protocol) → has_first_form before p ≡ true → IsProtocolInRange p
+form_in_range before p form =
+    let three = and_parts _ (is_not_lower before p) form in
+    let two = and_parts _ _ three.0 in
+    let one = and_parts (p.min_reader == 1 || p.min_reader == 2) (nat_le 1 p.min_writer && nat_le p.min_writer 6) two.0 in
+    let most : p.min_writer ≤ 6 = leb-true p.min_writer 6 ((and_parts (nat_le 1 p.min_writer) (nat_le p.min_writer 6) one.1).1) in
+    record { reader = one_or_two p.min_reader one.0; writer = omega arith }
+
+readable : (before : Option Protocol) (actions : List Action) → list_all (has_first_form before) (filter_map protocol_in actions) ≡ true → ArePlain actions → AllByRecursion IsReadable actions
+readable before [] forms plain = tt
+readable before (action.Protocol p ∷ actions) forms plain =
+    let both = and_parts (has_first_form before p) _ forms in
+    (record { versions = form_in_range before p both.0; plain = plain.0 }, readable before actions both.1 plain.1)
+readable before (action.Metadata m ∷ actions) forms plain = (record { versions = tt; plain = plain.0 }, readable before actions forms plain.1)
+readable before (action.Add f ∷ actions) forms plain = (record { versions = tt; plain = plain.0 }, readable before actions forms plain.1)
+readable before (action.Remove r ∷ actions) forms plain = (record { versions = tt; plain = plain.0 }, readable before actions forms plain.1)
+readable before (action.Info i ∷ actions) forms plain = (record { versions = tt; plain = plain.0 }, readable before actions forms plain.1)
+
+-- where nothing is said of another commit, each action has a line
+all_written : (actions : List Action) → length (filter_map info_in actions) ≡ 0 → written_of actions ≡ actions
+all_written [] none = refl
+all_written (action.Protocol p ∷ actions) none = ap (λ (rest : List Action). action.Protocol p ∷ rest) (all_written actions none)
+all_written (action.Metadata m ∷ actions) none = ap (λ (rest : List Action). action.Metadata m ∷ rest) (all_written actions none)
+all_written (action.Add f ∷ actions) none = ap (λ (rest : List Action). action.Add f ∷ rest) (all_written actions none)
+all_written (action.Remove r ∷ actions) none = ap (λ (rest : List Action). action.Remove r ∷ rest) (all_written actions none)
+all_written (action.Info i ∷ actions) none = absurd (omega (arith, none))
+
+pub record ReadsAsItself (actions : List Action) : Type 0 where
+  pub each : AllByRecursion IsReadable actions
+  pub written : written_of actions ≡ actions
+
+-- a commit that keeps the rules, by the commit's own line and the actions behind it
+pub valid_reads : (txn_id : List ℕ) (before : TableState) (version : ℕ) (actions : List Action) → IsValidNext before version (own_info txn_id ∷ actions) → ArePlain actions → ReadsAsItself actions
+valid_reads txn_id before version actions valid plain =
+    let one = passed (keeps_heads version (own_info txn_id ∷ actions)) 1 _ valid in
+    let two = passed (keeps_info (own_info txn_id ∷ actions)) 2 _ one.1 in
+    let three = passed (keeps_paths_apart (own_info txn_id ∷ actions)) 3 _ two.1 in
+    let five = passed (keeps_protocol before (own_info txn_id ∷ actions)) 5 _ three.1 in
+    let few : suc (length (filter_map info_in actions)) ≤ 1 = leb-true (suc (length (filter_map info_in actions))) 1 two.0 in
+    record { each = readable before.protocol actions five.0 plain; written = all_written actions (omega arith) }
+
+-- a whole text, by its lines
+pub text_reads : (txn_id : List ℕ) (now : ℤ) (actions : List Action) (text : List ℕ) → IsUtf8 txn_id → IsWhole now → AllByRecursion IsSound actions → text ≡ own_info_line txn_id now ++ text_of actions
+    → AllByRecursion IsReadable actions → commit_of text ≡ Some (own_info txn_id ∷ written_of actions)
+text_reads txn_id now actions text utf8 whole sound is each = ap commit_of is ∙ own_reads_back txn_id now actions utf8 whole (writable actions sound each)

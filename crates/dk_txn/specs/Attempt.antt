@@ -1,0 +1,77 @@
+-- What a commit over a log is to write, or why it is refused (Delta Lake's PROTOCOL.md, "Delta Log Entries", "Requirements for Writers").
+use Rattle.std.specs.Prelude.{ℕ, ℤ, ◌+◌, ◌-◌, ◌^◌, ◌==◌, List, ◌∷◌, ◌++◌, Option, Some, None, Result, Ok, Err, if◌then◌else◌, codes, decimal}
+use Rattle.dk_store.specs.Told.{Told}
+use Rattle.dk_model.specs.declared.action.Action.{Action}
+use Rattle.dk_model.specs.declared.action.Protocol.{Protocol}
+use Rattle.dk_model.specs.declared.state.TableState.{TableState}
+use Rattle.dk_model.specs.State.{empty_state}
+use Rattle.dk_model.specs.ReadBack.{own_info}
+use Rattle.dk_model.specs.Written.{own_info_line, text_of}
+use Rattle.dk_paths.specs.Numbers.{id_text}
+use Rattle.dk_engine.specs.declared.limits.Which.TheVariants as limits
+use Rattle.dk_engine.specs.declared.refusal.Refusal.{Refusal}
+use Rattle.dk_engine.specs.declared.refusal.Refusal.TheVariants as refusals
+use Rattle.dk_snapshot.specs.declared.snapshot.Snapshot.{Snapshot}
+use Rattle.dk_snapshot.specs.Newest.{newest}
+use Rattle.dk_snapshot.specs.Plan.{stands, greatest_below}
+use Rattle.dk_lawful.specs.Rules.{first_broken}
+use Rattle.dk_txn.specs.declared.start.Start.{Start}
+
+-- ---- what a commit comes after
+
+-- the greatest version that there can be
+abbrev pub last_version : ℕ
+last_version = 2 ^ 63 - 1
+
+abbrev pub after_snapshot : Result Snapshot Refusal → Result Start Refusal
+after_snapshot (Ok snapshot) = Ok (record { version = snapshot.version + 1; before = snapshot.state })
+after_snapshot (Err refusal) = Err refusal
+
+-- by the greatest version whose commit stands: nothing, or the newest version, and nothing comes after the greatest that there can be
+abbrev pub start_after : List Told → Option ℕ → Result Start Refusal
+start_after events None = Ok (record { version = 0; before = empty_state })
+start_after events (Some latest) = if latest == last_version then Err (refusals.Limit limits.Version last_version) else after_snapshot (newest events)
+
+abbrev pub start : List Told → Result Start Refusal
+start events = start_after events (greatest_below (stands events) (2 ^ 63))
+
+-- ---- whether it may come there
+
+-- what the table asks of a writer beyond version 1, by its name
+abbrev pub unsupported : Option Protocol → Option (List ℕ)
+unsupported None = None
+unsupported (Some p) = if p.min_writer == 1 then None else Some (codes "minWriterVersion " ++ decimal p.min_writer)
+
+-- support comes before the rules
+abbrev pub verdict : Option (List ℕ) → Option ℕ → Result (Unit {0}) Refusal
+verdict (Some name) broken = Err (refusals.Unsupported name)
+verdict None (Some rule) = Err (refusals.Invalid rule)
+verdict None None = Ok tt
+
+-- ---- what it writes
+
+-- the transaction's own line of that id, and then the actions
+abbrev pub own_commit : ℕ → List Action → List Action
+own_commit id actions = own_info (id_text id) ∷ actions
+
+abbrev pub commit_text : ℕ → ℤ → List Action → List ℕ
+commit_text id now actions = own_info_line (id_text id) now ++ text_of actions
+
+abbrev pub allowed : Start → List Action → ℕ → Result (Unit {0}) Refusal
+allowed from actions id = verdict (unsupported from.before.protocol) (first_broken from.before from.version (own_commit id actions))
+
+-- a version, and the text of its commit
+abbrev pub Writing : Type 0
+Writing = ℕ × List ℕ
+
+abbrev pub if_allowed : Result (Unit {0}) Refusal → Writing → Result Writing Refusal
+if_allowed (Ok u) writing = Ok writing
+if_allowed (Err refusal) writing = Err refusal
+
+abbrev pub attempt_from : Result Start Refusal → List Action → ℤ → ℕ → Result Writing Refusal
+attempt_from (Ok from) actions now id = if_allowed (allowed from actions id) (from.version, commit_text id now actions)
+attempt_from (Err refusal) actions now id = Err refusal
+
+-- what a commit over these events is to write, or why it is refused
+abbrev pub attempt : List Told → List Action → ℤ → ℕ → Result Writing Refusal
+attempt events actions now id = attempt_from (start events) actions now id

@@ -1,0 +1,65 @@
+-- What a commit did to the events of the store and to the history, by its answer.
+use Rattle.std.specs.Prelude.{◌≡◌, ◌⊎◌, true, ℕ, ℤ, List, Option, Some, None, Result, Ok, Err, IsNone}
+use Rattle.std.specs.List.{AllByRecursion}
+use Rattle.dk_store.specs.Told.{Told}
+use Rattle.dk_store.specs.Objects.{object}
+use Rattle.dk_store.specs.Writing.{AddsMade}
+use Rattle.dk_model.specs.declared.action.Action.{Action}
+use Rattle.dk_model.specs.PlainTables.{is_plain}
+use Rattle.dk_paths.specs.Names.{commit_path}
+use Rattle.dk_engine.specs.declared.refusal.Refusal.{Refusal}
+use Rattle.dk_engine.specs.declared.refusal.Refusal.TheVariants as refusals
+use Rattle.dk_engine.specs.Answers.{Refuses}
+use Rattle.dk_lawful.specs.History.{next_version}
+use Rattle.dk_lawful.specs.Lawful.{Lawful}
+use Rattle.dk_lawful.specs.Permits.{IsNextCommit}
+use Rattle.dk_lawful.specs.Kept.{IsSameHistory, HasOneMore}
+use Rattle.dk_txn.specs.declared.commit.Committed.{Committed}
+use Rattle.dk_txn.specs.Attempt.{Writing}
+
+-- the one event Made of the version's path with that text, where nothing stood
+pub record AddsCommit (writing : Writing) (events : List Told) (later : Option (List Told)) : Type 0 where
+  pub free : IsNone (object events (commit_path writing.0))
+  pub made : AddsMade (commit_path writing.0) writing.1 (Some events) later
+
+-- what is meant was written
+abbrev pub Writes : Result Writing Refusal → List Told → ℕ → Option (List Told) → Type 0
+Writes meant events version later = (text : List ℕ) × (meant ≡ Ok (version, text)) × AddsCommit (version, text) events later
+
+-- A failed store may have taken what is meant. Any other refusal is the meaning's and adds nothing; that the path was taken comes never.
+abbrev pub CommitRefuses : Refusal → Result Writing Refusal → List Told → Option (List Told) → Type 0
+CommitRefuses refusals.Store meant events later = (later ≡ Some events) ⊎ ((version : ℕ) × Writes meant events version later)
+CommitRefuses refusals.OutOfMemory meant events later = later ≡ Some events
+CommitRefuses (refusals.Missing path) meant events later = (meant ≡ Err (refusals.Missing path)) × (later ≡ Some events)
+CommitRefuses (refusals.Unsupported name) meant events later = (meant ≡ Err (refusals.Unsupported name)) × (later ≡ Some events)
+CommitRefuses (refusals.Damaged path place) meant events later = (meant ≡ Err (refusals.Damaged path place)) × (later ≡ Some events)
+CommitRefuses (refusals.Limit which value) meant events later = (meant ≡ Err (refusals.Limit which value)) × (later ≡ Some events)
+CommitRefuses (refusals.Invalid rule) meant events later = (meant ≡ Err (refusals.Invalid rule)) × (later ≡ Some events)
+CommitRefuses (refusals.Taken path) meant events later = ⊥
+
+-- what a commit did to the events that were told, by what is meant over them
+abbrev pub Commits : Result Writing Refusal → List Told → Result Committed Refusal → Option (List Told) → Type 0
+Commits meant events (Ok committed) later = Writes meant events committed.version later
+Commits meant events (Err refusal) later = CommitRefuses refusal meant events later
+
+-- ---- the history
+
+-- actions of tables that are read so far
+abbrev pub ArePlain : List Action → Type 0
+ArePlain actions = AllByRecursion (λ a. is_plain a ≡ true) actions
+
+-- With Ok the history has this commit more, at the version that was answered. After a failure of the store it may have it, and after any other refusal it is as it was.
+abbrev pub HistoryAfterRefusal : Refusal → List Action → List Told → List Told → Type 0
+HistoryAfterRefusal refusals.Store commit events later = IsSameHistory events later ⊎ HasOneMore commit events later
+HistoryAfterRefusal _ commit events later = IsSameHistory events later
+
+abbrev pub HistoryAfterCommit : List Action → Result Committed Refusal → List Told → List Told → Type 0
+HistoryAfterCommit commit (Ok committed) events later = (committed.version ≡ next_version events) × HasOneMore commit events later
+HistoryAfterCommit commit (Err refusal) events later = HistoryAfterRefusal refusal commit events later
+
+abbrev pub SaysHistory : List Action → Result Committed Refusal → List Told → List Told → Type 0
+SaysHistory commit result events later = (horizon : ℤ) → Lawful events horizon → HistoryAfterCommit commit result events later
+
+-- on a lawful log the commit may come next, as this version
+abbrev pub ComesNext : ℕ → List Action → List Told → Type 0
+ComesNext version commit events = (horizon : ℤ) → Lawful events horizon → IsNextCommit events version commit

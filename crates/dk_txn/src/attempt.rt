@@ -1,0 +1,100 @@
+//! What a commit is to write.
+ghost use Rattle.std.specs.Prelude.{◌≡◌, ◌≤◌, ◌<◌, ◌^◌, ℕ, List, Ok, Err, Some, IfOk, IfSome};
+ghost use Rattle.dk_store.specs.Causes.{Rose};
+ghost use Rattle.dk_model.specs.CommitText.{commit_of};
+ghost use Rattle.dk_engine.specs.Answers.{Gives};
+ghost use Rattle.dk_txn.specs.Attempt.{own_commit, unsupported, allowed, attempt_from, attempt};
+ghost use Rattle.dk_txn.specs.Commits.{ArePlain};
+
+use crate::rules::first_broken;
+use crate::start::{Start, find_start};
+use crate::text::commit_text;
+use dk_engine::{JsonHandler, Refusal};
+use dk_model::{Action, Protocol, Text};
+use dk_store::Store;
+use std::alloc::{AllocError, Global};
+
+/// What a commit is to write.
+#[derive(Drop)]
+pub(crate) struct Writing {
+    /// The version that the commit is to be.
+    pub version: u64,
+    /// The whole text of the commit.
+    pub text: Vec<u8>,
+}
+
+/// What the table asks of a writer beyond version 1, by its name.
+fn unsupported(alloc: Global, protocol: &Option<Protocol>) -> Result<Option<Text>, AllocError>
+    ensures { IfOk result (λ name. name ≡ unsupported protocol.now) }
+{
+    match protocol {
+        Some(protocol) if protocol.min_writer != 1 => {
+            let version = protocol.min_writer;
+            Ok(Some(Text::new(format!(in alloc; "minWriterVersion {version}")?)))
+        }
+        _ => Ok(None),
+    }
+}
+
+/// Tests whether a commit may come there: that the table can be written, and then the rules.
+fn check(alloc: Global, from: &Start, actions: &[Action]) -> Result<(), Refusal>
+    ensures means { (id : ℕ) → Gives (λ u. u) result (allowed from.now actions.now id) }
+    ensures store { result ≡ Err Refusal.Store → ⊥ }
+    ensures taken { (path : List ℕ) → result ≡ Err (Refusal.Taken path) → ⊥ }
+{
+    if let Some(name) = unsupported(alloc, &from.before.protocol)? {
+        return Err(Refusal::Unsupported { name });
+    }
+    match first_broken(alloc, &from.before, from.version, actions)? {
+        Some(rule) => Err(Refusal::Invalid { rule }),
+        None => Ok(()),
+    }
+}
+
+/// What a commit from there on is to write.
+fn writing_from(
+    alloc: Global,
+    json: &mut dyn JsonHandler,
+    from: &Start,
+    actions: &[Action],
+    now: i64,
+    id: u128,
+) -> Result<Writing, Refusal>
+    ensures means { Gives (λ w. (w.version, w.text.items)) result (attempt_from (Ok from.now) actions.now now id) }
+    ensures reads_back { IfOk result (λ w. ArePlain actions.now → commit_of w.text.items ≡ Some (own_commit id actions.now)) }
+    ensures version { IfOk result (λ w. w.version ≡ from.now.version) }
+    ensures store { result ≡ Err Refusal.Store → ⊥ }
+    ensures taken { (path : List ℕ) → result ≡ Err (Refusal.Taken path) → ⊥ }
+{
+    match check(alloc, from, actions) {
+        Err(refusal) => Err(refusal),
+        Ok(()) => Ok(Writing {
+            version: from.version,
+            text: commit_text(alloc, json, actions, now, id)?,
+        }),
+    }
+}
+
+/// What a commit over the store is to write. Nothing is written here.
+pub(crate) fn attempt(
+    alloc: Global,
+    store: &mut dyn Store,
+    json: &mut dyn JsonHandler,
+    actions: &[Action],
+    now: i64,
+    id: u128,
+) -> Result<Writing, Refusal>
+    ensures same { told store.new ≡ told store.old }
+    ensures clashes { clashes store.new ≡ clashes store.old }
+    ensures later { store_faults store.old ≤ store_faults store.new }
+    ensures store { result ≡ Err Refusal.Store → Rose (store_faults store.old) (store_faults store.new) }
+    ensures taken { (path : List ℕ) → result ≡ Err (Refusal.Taken path) → ⊥ }
+    ensures means { IfSome (told store.old) (λ events. Gives (λ w. (w.version, w.text.items)) result (attempt events actions.now now id)) }
+    ensures reads_back { IfOk result (λ w. ArePlain actions.now → commit_of w.text.items ≡ Some (own_commit id actions.now)) }
+    ensures small { IfOk result (λ w. w.version < 2 ^ 63) }
+{
+    match find_start(alloc, store, json) {
+        Err(refusal) => Err(refusal),
+        Ok(from) => writing_from(alloc, json, &from, actions, now, id),
+    }
+}

@@ -1,0 +1,88 @@
+//! What a commit comes after.
+ghost use Rattle.std.specs.Prelude.{◌≡◌, ◌≤◌, ◌<◌, ◌^◌, ◌+◌, ℕ, List, All, Err, IfOk, IfSome};
+ghost use Rattle.dk_store.specs.Causes.{Rose};
+ghost use Rattle.dk_engine.specs.Answers.{Gives};
+ghost use Rattle.dk_snapshot.specs.Listed.{ListsVersions};
+ghost use Rattle.dk_txn.specs.Attempt.{start};
+
+use dk_engine::{JsonHandler, Refusal, Which};
+use dk_model::TableState;
+use dk_paths::MAX_VERSION;
+use dk_snapshot::{Snapshot, latest, open_listed, survey};
+use dk_store::Store;
+use std::alloc::Global;
+
+/// What a commit comes after.
+#[derive(Drop)]
+pub struct Start {
+    /// The version that the commit is to be.
+    pub version: u64,
+    /// The state before it: after all commits up to the version before, or the empty one.
+    pub before: TableState,
+}
+
+/// What comes after a snapshot.
+fn after(snapshot: Snapshot) -> Start
+    requires { snapshot.version < 2 ^ 63 }
+    ensures version { result.version ≡ snapshot.version + 1 }
+    ensures before { result.before ≡ snapshot.state }
+{
+    Start {
+        version: snapshot.version + 1,
+        before: snapshot.state,
+    }
+}
+
+/// What a commit comes after, by the versions that a survey found.
+fn start_listed(
+    alloc: Global,
+    store: &mut dyn Store,
+    json: &mut dyn JsonHandler,
+    versions: &[u64],
+) -> Result<Start, Refusal>
+    requires { All (λ version. version < 2 ^ 63) versions.now }
+    ensures same { told store.new ≡ told store.old }
+    ensures clashes { clashes store.new ≡ clashes store.old }
+    ensures later { store_faults store.old ≤ store_faults store.new }
+    ensures store { result ≡ Err Refusal.Store → Rose (store_faults store.old) (store_faults store.new) }
+    ensures taken { (path : List ℕ) → result ≡ Err (Refusal.Taken path) → ⊥ }
+    ensures means { IfSome (told store.old) (λ events. ListsVersions events versions.now → Gives (λ from. from) result (start events)) }
+    ensures small { IfOk result (λ from. from.version < 2 ^ 63) }
+{
+    let Some(latest) = latest(versions) else {
+        return Ok(Start {
+            version: 0,
+            before: TableState::new(alloc),
+        });
+    };
+    if latest == MAX_VERSION {
+        return Err(Refusal::Limit {
+            which: Which::Version,
+            value: MAX_VERSION,
+        });
+    }
+    match open_listed(alloc, store, json, versions) {
+        Err(refusal) => Err(refusal),
+        Ok(snapshot) => Ok(after(snapshot)),
+    }
+}
+
+/// What a commit comes after: lists the log once, and reads each of its commits once.
+pub(crate) fn find_start(
+    alloc: Global,
+    store: &mut dyn Store,
+    json: &mut dyn JsonHandler,
+) -> Result<Start, Refusal>
+    ensures same { told store.new ≡ told store.old }
+    ensures clashes { clashes store.new ≡ clashes store.old }
+    ensures later { store_faults store.old ≤ store_faults store.new }
+    ensures store { result ≡ Err Refusal.Store → Rose (store_faults store.old) (store_faults store.new) }
+    ensures taken { (path : List ℕ) → result ≡ Err (Refusal.Taken path) → ⊥ }
+    ensures means { IfSome (told store.old) (λ events. Gives (λ from. from) result (start events)) }
+    ensures small { IfOk result (λ from. from.version < 2 ^ 63) }
+{
+    match survey(alloc, store) {
+        Err(refusal) => Err(refusal),
+        Ok(versions) => start_listed(alloc, store, json, &versions),
+    }
+}
