@@ -1,4 +1,5 @@
 pub mod Next
+pub mod PlainRead
 pub mod ReadHistory
 pub mod Readable
 pub mod RuleWalks

@@ -1,3 +1,4 @@
 pub mod Attempt
 pub mod Commits
+pub mod Laws
 pub mod Walks

@@ -3,8 +3,11 @@
 
 mod attempt;
 mod commit;
+pub mod laws;
 mod rules;
 mod start;
+#[cfg(test)]
+mod tests;
 mod text;
 
 pub use commit::{Committed, commit_now};
