@@ -1,9 +1,8 @@
 -- What a commit comes after is the whole log, so the commit is the next one of the history.
-use Rattle.std.proofs.Common.{◌≡◌, ℕ, ℤ, zero, suc, ◌+◌, ◌-◌, ◌<◌, ◌≤◌, ◌^◌, Bool, true, false, List, [], ◌∷◌, ◌++◌, length, length-append, Some, None, option_and_then, option_map, slice_get, refl, ap, sym, subst, ◌∙◌, true≢false, arith, inl, inr, eq-eqb}
+use Rattle.std.proofs.Common.{◌≡◌, ℕ, ℤ, zero, suc, ◌+◌, ◌-◌, ◌<◌, ◌^◌, Bool, true, false, List, [], ◌∷◌, ◌++◌, length, length-append, Some, None, option_and_then, slice_get, refl, ap, sym, subst, ◌∙◌, true≢false, arith, inl, inr, eq-eqb}
 use Rattle.std.specs.Prelude.{Option, Result, Ok, Err, IsNone, is_some, ◌==◌, ◌&&◌, if◌then◌else◌}
-use Rattle.std.proofs.lemmas.Bool.{cases_lt, eqb-true}
-use Rattle.std.proofs.lemmas.Bool.Decides.{eqb_tells}
-use Rattle.dk_store.specs.Told.{Told, Stored}
+use Rattle.std.proofs.lemmas.Bool.{cases_lt}
+use Rattle.dk_store.specs.Told.{Told}
 use Rattle.dk_store.specs.Objects.{object, content}
 use Rattle.dk_model.specs.declared.action.Action.{Action}
 use Rattle.dk_model.specs.declared.action.Protocol.{Protocol}
@@ -17,20 +16,18 @@ use Rattle.dk_engine.specs.declared.refusal.Refusal.{Refusal}
 use Rattle.dk_engine.specs.declared.refusal.Refusal.TheVariants as refusals
 use Rattle.dk_snapshot.specs.declared.snapshot.Snapshot.{Snapshot}
 use Rattle.dk_snapshot.specs.Plan.{stands, greatest_below, first_failing, count_from, count_up_to, plan}
-use Rattle.dk_snapshot.specs.Log.{meant, commit_of_object, commit_at, behind_older, newest_behind, commits_below, commits_planned, commits_of_newest}
-use Rattle.dk_snapshot.specs.Newest.{whole_state, version_of, newest}
+use Rattle.dk_snapshot.specs.Log.{meant, commit_of_object, commit_at, newest_behind, commits_below, commits_planned}
+use Rattle.dk_snapshot.specs.Newest.{version_of, newest}
 use Rattle.dk_lawful.specs.Managed.{is_managed, asks_for_catalogue}
-use Rattle.dk_lawful.specs.History.{history, commits_of, next_version, table}
-use Rattle.dk_lawful.specs.Lawful.{Lawful}
+use Rattle.dk_lawful.specs.History.{history, commits_of, table}
 use Rattle.dk_lawful.specs.Laws.{IsWholeLog}
-use Rattle.dk_lawful.specs.Permits.{IsNextCommit}
-use Rattle.dk_lawful.specs.Rules.{is_written, first_broken, IsValidNext}
+use Rattle.dk_lawful.specs.Rules.{first_broken, IsValidNext}
 use Rattle.dk_lawful.proofs.Lists.{slice_get-before, slice_get-end}
 use Rattle.dk_lawful.proofs.Standing.{content_none}
 use Rattle.dk_lawful.proofs.Sound.{length_commits}
 use Rattle.dk_lawful.proofs.Unmanaged.{writer_one_is_unmanaged}
 use Rattle.dk_txn.specs.declared.start.Start.{Start}
-use Rattle.dk_txn.specs.Attempt.{last_version, after_snapshot, start_after, start, unsupported, verdict, own_commit, commit_text, Writing, allowed, if_allowed, attempt_from, attempt}
+use Rattle.dk_txn.specs.Attempt.{last_version, after_snapshot, start_after, start, unsupported, verdict, own_commit, commit_text, Writing, if_allowed, attempt_from, attempt}
 use Rattle.dk_txn.specs.Commits.{ComesNext}
 use Rattle.dk_txn.proofs.ReadHistory.{read_history}
 

@@ -1,7 +1,6 @@
 -- What is read of a text is plain.
-use Rattle.std.proofs.Common.{◌≡◌, ℕ, ◌+◌, Bool, true, false, List, [], ◌∷◌, ◌++◌, Some, None, refl, sym, subst, ◌∙◌}
+use Rattle.std.proofs.Common.{◌≡◌, ℕ, ◌+◌, Bool, true, false, List, [], ◌∷◌, Some, None, refl, subst}
 use Rattle.std.specs.Prelude.{Option, Result, Ok, Err, option_map, option_and_then, if◌then◌else◌}
-use Rattle.std.specs.Option.{option_to_list}
 use Rattle.serde_json.specs.Data.{Data}
 use Rattle.dk_model.specs.declared.action.Action.{Action}
 use Rattle.dk_model.specs.declared.action_key.ActionKey.{ActionKey}
@@ -9,7 +8,7 @@ use Rattle.dk_model.specs.ActionKeys.{name_of, all_keys}
 use Rattle.dk_model.specs.ActionObject.{action_of, action_under, keyed, one_key, plain}
 use Rattle.dk_model.specs.Fields.{needed, group}
 use Rattle.dk_model.specs.PlainTables.{is_plain}
-use Rattle.dk_model.specs.CommitText.{after_line, commit_in, commit_of, is_blank, json_of, line_means, lines_of, reading, with_front}
+use Rattle.dk_model.specs.CommitText.{after_line, commit_in, is_blank, json_of, line_means, lines_of, reading}
 use Rattle.dk_txn.specs.Commits.{ArePlain}
 use Rattle.dk_txn.specs.Laws.{ReadIsPlain}
 

@@ -10,7 +10,7 @@ use Rattle.dk_engine.specs.declared.refusal.Refusal.TheVariants as refusals
 use Rattle.dk_engine.specs.Answers.{Refuses, Gives}
 use Rattle.dk_engine.proofs.Refused.{refused_by_part}
 use Rattle.dk_snapshot.specs.declared.snapshot.Snapshot.{Snapshot}
-use Rattle.dk_snapshot.specs.Plan.{stands, greatest_below}
+use Rattle.dk_snapshot.specs.Plan.{stands}
 use Rattle.dk_snapshot.specs.Versions.{greatest}
 use Rattle.dk_snapshot.specs.Listed.{ListsVersions, Surveys}
 use Rattle.dk_snapshot.specs.Newest.{newest}

@@ -1,6 +1,6 @@
 -- What is written of an attempt, and what its answer says.
-use Rattle.std.proofs.Common.{◌≡◌, ℕ, ℤ, ◌<◌, ◌^◌, true, false, List, [], ◌∷◌, ◌++◌, Some, None, inl, inr, refl, ap, sym, subst, ◌∙◌, true≢false}
-use Rattle.std.specs.Prelude.{Option, Result, Ok, Err, IfSome, IsNone, IsSome, is_some}
+use Rattle.std.proofs.Common.{◌≡◌, ℕ, ℤ, ◌<◌, ◌^◌, List, ◌∷◌, Some, None, inl, refl, ap, sym, subst, ◌∙◌, true≢false}
+use Rattle.std.specs.Prelude.{Option, Result, Ok, Err, IfSome, IsNone, is_some}
 use Rattle.std.specs.List.{AllByRecursion}
 use Rattle.dk_store.specs.declared.event.Put.{Put}
 use Rattle.dk_store.specs.declared.event.Put.TheVariants as puts
@@ -16,18 +16,18 @@ use Rattle.dk_paths.specs.Names.{commit_path}
 use Rattle.dk_paths.specs.Numbers.{id_text}
 use Rattle.dk_engine.specs.declared.refusal.Refusal.{Refusal}
 use Rattle.dk_engine.specs.declared.refusal.Refusal.TheVariants as refusals
-use Rattle.dk_engine.specs.Answers.{Refuses, Gives}
-use Rattle.dk_lawful.specs.History.{history, next_version}
+use Rattle.dk_engine.specs.Answers.{Refuses}
+use Rattle.dk_lawful.specs.History.{next_version}
 use Rattle.dk_lawful.specs.Lawful.{Lawful}
 use Rattle.dk_lawful.specs.Rules.{first_broken, IsValidNext}
-use Rattle.dk_lawful.specs.Kept.{IfBoth, StaysLawful, KeepsLawful, HistoryAfterPut, HasOneMore, IsSameHistory}
+use Rattle.dk_lawful.specs.Kept.{IfBoth, KeepsLawful, HistoryAfterPut}
 use Rattle.dk_lawful.proofs.Puts.{put_keeps_lawful, put_adds_commit}
 use Rattle.dk_txn.specs.declared.start.Start.{Start}
 use Rattle.dk_txn.specs.declared.commit.Committed.{Committed}
 use Rattle.dk_txn.specs.Attempt.{unsupported, verdict, own_commit, commit_text, Writing, allowed, if_allowed, attempt_from, attempt}
-use Rattle.dk_txn.specs.Commits.{ArePlain, AddsCommit, Writes, CommitRefuses, Commits, HistoryAfterCommit, SaysHistory, ComesNext}
-use Rattle.dk_txn.proofs.Readable.{ReadsAsItself, valid_reads}
-use Rattle.dk_txn.proofs.Next.{Next, attempt_next}
+use Rattle.dk_txn.specs.Commits.{ArePlain, CommitRefuses, Commits, HistoryAfterCommit, SaysHistory, ComesNext}
+use Rattle.dk_txn.proofs.Readable.{valid_reads}
+use Rattle.dk_txn.proofs.Next.{attempt_next}
 
 -- ---- what is to be written
 

@@ -1,5 +1,5 @@
 -- What a commit did to the events of the store and to the history, by its answer.
-use Rattle.std.specs.Prelude.{◌≡◌, ◌⊎◌, true, ℕ, ℤ, List, Option, Some, None, Result, Ok, Err, IsNone}
+use Rattle.std.specs.Prelude.{◌≡◌, ◌⊎◌, true, ℕ, ℤ, List, Option, Some, Result, Ok, Err, IsNone}
 use Rattle.std.specs.List.{AllByRecursion}
 use Rattle.dk_store.specs.Told.{Told}
 use Rattle.dk_store.specs.Objects.{object}
@@ -9,7 +9,6 @@ use Rattle.dk_model.specs.PlainTables.{is_plain}
 use Rattle.dk_paths.specs.Names.{commit_path}
 use Rattle.dk_engine.specs.declared.refusal.Refusal.{Refusal}
 use Rattle.dk_engine.specs.declared.refusal.Refusal.TheVariants as refusals
-use Rattle.dk_engine.specs.Answers.{Refuses}
 use Rattle.dk_lawful.specs.History.{next_version}
 use Rattle.dk_lawful.specs.Lawful.{Lawful}
 use Rattle.dk_lawful.specs.Permits.{IsNextCommit}

@@ -1,4 +1,4 @@
-use Rattle.std.proofs.Common.{◌≡◌, ℕ, List, Option, Some, None, rules, sym, ap₂, ◌∙◌}
+use Rattle.std.proofs.Common.{◌≡◌, Some, None, rules, sym, ap₂, ◌∙◌}
 use Rattle.dk_paths.specs.Numbers.{id_text}
 use Rattle.dk_lawful.specs.Rules.{first_broken}
 use Rattle.dk_txn.specs.Attempt.{unsupported, verdict, own_commit}

@@ -1,4 +1,4 @@
-use Rattle.std.proofs.Common.{arith, rules}
+use Rattle.std.proofs.Common.{arith}
 use Rattle.dk_txn.proofs.RuleWalks.{written_is}
 use Rattle.dk_txn.proofs.rules.keeps_writer.Goals as goal
 

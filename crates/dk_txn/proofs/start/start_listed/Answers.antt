@@ -1,4 +1,4 @@
-use Rattle.std.proofs.Common.{rules, sym, ◌∙◌}
+use Rattle.std.proofs.Common.{rules}
 use Rattle.dk_txn.proofs.Starts.{start_none, start_last, start_refused, start_opened}
 use Rattle.dk_txn.proofs.start.start_listed.Goals as goal
 
