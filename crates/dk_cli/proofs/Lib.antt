@@ -2,3 +2,5 @@ pub mod FaultTexts
 pub mod History
 pub mod Pieces
 pub mod Shown
+pub mod Inputs
+pub mod Scans

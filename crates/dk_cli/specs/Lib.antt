@@ -4,3 +4,7 @@ pub mod Run
 pub mod Show
 pub mod Shown
 pub mod Status
+pub mod Input
+pub mod Seen
+pub mod Actions
+pub mod Reading

@@ -2,8 +2,11 @@
 //! whole promise, for the commands that exist.
 #![tactic(auto)]
 
+mod actions;
 mod fault;
+mod input;
 mod program;
+mod scan;
 mod show;
 mod status;
 mod text;
