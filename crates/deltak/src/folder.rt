@@ -10,6 +10,13 @@ pub struct Folder {
 }
 
 impl Folder {
+    /// A folder that is read and written, and that no other program holds.
+    pub fn writing(rt: HostRuntime, path: String) -> Folder {
+        Folder {
+            store: DirStore::new(rt, path),
+        }
+    }
+
     /// A folder that is only read, beside other readers.
     pub fn reading(rt: HostRuntime, path: String) -> Folder {
         Folder {

@@ -41,6 +41,14 @@ fn report<R: Eprint>(rt: &R, answer: &str) {
     let _ = rt.eprintln(format_args!("deltak: {answer}"));
 }
 
+/// The table's folder: a command that only reads asks for it beside other readers.
+fn folder_for(rt: HostRuntime, path: String, words: &[String]) -> Folder {
+    match words.first() {
+        Some(word) if word.as_str() == "show" => Folder::reading(rt, path),
+        _ => Folder::writing(rt, path),
+    }
+}
+
 /// Carries out the words over the folder, and says on standard error what isn't Done.
 fn carry_out(
     rt: &HostRuntime,
@@ -50,7 +58,7 @@ fn carry_out(
     base: u128,
 ) -> Result<u8, Early> {
     let alloc = rt.alloc();
-    let store = Folder::reading(rt.clone()?, folder);
+    let store = folder_for(rt.clone()?, folder, words);
     let mut engine = Engine {
         store: Box::new(alloc, store)?,
         json: Box::new(alloc, SerdeJson::new())?,

@@ -44,3 +44,11 @@ TakesActions (Err statuses.SourceFault) meant = Unit {0}
 TakesActions (Err statuses.Done) meant = ⊥
 TakesActions (Err statuses.Usage) meant = ⊥
 TakesActions (Err statuses.SinkFault) meant = ⊥
+
+-- the program ends with it where the input has no actions
+abbrev pub IsEnding : Status → Type 0
+IsEnding (statuses.Refused refusal) = Unit {0}
+IsEnding statuses.SourceFault = Unit {0}
+IsEnding statuses.Done = ⊥
+IsEnding statuses.Usage = ⊥
+IsEnding statuses.SinkFault = ⊥

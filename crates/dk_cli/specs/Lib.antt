@@ -8,3 +8,4 @@ pub mod Input
 pub mod Seen
 pub mod Actions
 pub mod Reading
+pub mod Commit

@@ -11,9 +11,12 @@ use Rattle.dk_engine.specs.Answers.{Refuses}
 abbrev pub words_of : List (String Global) → List (List ℕ)
 words_of words = map string_bytes words
 
--- the one command of by now
+-- the commands of by now, each of one word
 abbrev pub IsShow : List (String Global) → Type 0
 IsShow words = words_of words ≡ codes "show" ∷ []
+
+abbrev pub IsCommit : List (String Global) → Type 0
+IsCommit words = words_of words ≡ codes "commit" ∷ []
 
 -- With Done the sink took the text that is meant, with SinkFault a beginning of it; a refusal is the meaning's, and then nothing was written.
 abbrev pub Answers : Result (List ℕ) Refusal → Option (List ℕ) → Status → Option (List ℕ) → Type 0

@@ -1,9 +1,10 @@
 //! The actions of the program's input, one a line.
-ghost use Rattle.std.specs.Prelude.{◌≡◌, ◌≤◌, ◌<◌, ◌^◌, [], List, ℕ, Err, IfSome, OnOk};
+ghost use Rattle.std.specs.Prelude.{◌≡◌, ◌≤◌, ◌<◌, ◌^◌, [], List, ℕ, Err, IfErr, IfOk, IfSome, OnOk};
 ghost use Rattle.dk_store.specs.Causes.{Rose};
 ghost use Rattle.dk_model.specs.CommitText.{reading_of};
 ghost use Rattle.dk_engine.specs.Answers.{Gives};
-ghost use Rattle.dk_cli.specs.Actions.{actions_of, one_past, read_actions, TakesActions};
+ghost use Rattle.dk_txn.specs.Commits.{ArePlain};
+ghost use Rattle.dk_cli.specs.Actions.{actions_of, one_past, read_actions, IsEnding, TakesActions};
 ghost use Rattle.dk_cli.specs.Reading.{StopsReading};
 
 use crate::input::{Unread, read_input};
@@ -31,7 +32,9 @@ fn one_past(limits: Limits, which: Which) -> u64
 /// The actions of these bytes.
 fn read_bytes(alloc: Global, json: &mut dyn JsonHandler, bytes: &[u8]) -> Result<Commit, Refusal>
     ensures means { Gives (λ commit. commit) result (read_actions (reading_of bytes.now)) }
+    ensures plain { IfOk result (λ commit. ArePlain commit) }
     ensures store { result ≡ Err Refusal.Store → ⊥ }
+    ensures taken { (path : List ℕ) → result ≡ Err (Refusal.Taken path) → ⊥ }
 {
     match json.read_commit(alloc, bytes) {
         Ok(commit) => Ok(commit),
@@ -51,6 +54,8 @@ fn unread_status(limits: Limits, unread: Unread) -> Status
     ensures means { (left : List ℕ) → StopsReading limits unread left → TakesActions (Err result) (actions_of limits left) }
     ensures source { result ≡ Status.SourceFault → unread ≡ Unread.Source }
     ensures store { result ≡ Status.Refused Refusal.Store → ⊥ }
+    ensures taken { (path : List ℕ) → result ≡ Status.Refused (Refusal.Taken path) → ⊥ }
+    ensures ends { IsEnding result }
 {
     match unread {
         Unread::Source => Status::SourceFault,
@@ -73,10 +78,13 @@ pub(crate) fn take_actions<I: Source>(
     requires line { limits.line < 2 ^ 62 }
     requires lines { limits.lines < 2 ^ 62 }
     ensures means { IfSome (I.left input.old) (λ left. TakesActions result (actions_of limits left)) }
+    ensures plain { IfOk result (λ commit. ArePlain commit) }
     ensures at_end { OnOk result (IfSome (I.left input.new) (λ left. left ≡ [])) }
     ensures source { result ≡ Err Status.SourceFault → Rose (I.source_faults input.old) (I.source_faults input.new) }
     ensures later { I.source_faults input.old ≤ I.source_faults input.new }
     ensures store { result ≡ Err (Status.Refused Refusal.Store) → ⊥ }
+    ensures taken { (path : List ℕ) → result ≡ Err (Status.Refused (Refusal.Taken path)) → ⊥ }
+    ensures ends { IfErr result (λ status. IsEnding status) }
 {
     match read_input(alloc, input, limits) {
         Ok(bytes) => match read_bytes(alloc, json, &bytes) {

@@ -3,6 +3,7 @@
 #![tactic(auto)]
 
 mod actions;
+mod commit;
 mod fault;
 mod input;
 mod program;

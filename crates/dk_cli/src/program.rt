@@ -1,17 +1,23 @@
 //! The top call.
-ghost use Rattle.std.specs.Prelude.{◌≡◌, ◌≤◌, ◌-◌, ◌↔◌, List, ℕ, Some, IfSome, IsTrue, length, string_bytes};
+ghost use Rattle.std.specs.Prelude.{◌≡◌, [], ◌≤◌, ◌-◌, ◌↔◌, List, ℕ, Some, IfSome, IsTrue, length, string_bytes};
 ghost use Rattle.dk_store.specs.Causes.{Rose};
 ghost use Rattle.dk_model.specs.State.{fold};
 ghost use Rattle.dk_model.specs.declared.action.Action.{Action};
 ghost use Rattle.dk_model.specs.declared.action.Protocol.{Protocol};
 ghost use Rattle.dk_model.specs.declared.action.Metadata.{Metadata};
 ghost use Rattle.dk_engine.specs.Held.{held};
+ghost use Rattle.dk_engine.specs.Usual.{AreWithin};
+ghost use Rattle.dk_lawful.specs.Kept.{KeepsLawful};
+ghost use Rattle.dk_txn.specs.Attempt.{attempt};
 ghost use Rattle.dk_snapshot.specs.History.{IsLog};
+ghost use Rattle.dk_cli.specs.Actions.{actions_of};
+ghost use Rattle.dk_cli.specs.Commit.{CommitAnswers};
 ghost use Rattle.dk_cli.specs.Show.{show, cut_of};
 ghost use Rattle.dk_cli.specs.Shown.{shown};
-ghost use Rattle.dk_cli.specs.Run.{IsShow, Answers, IsUnwritten};
+ghost use Rattle.dk_cli.specs.Run.{IsShow, IsCommit, Answers, IsUnwritten};
 ghost use Rattle.dk_cli.specs.History.{Shows};
 
+use crate::commit::commit_command;
 use crate::show::show_text;
 use crate::status::Status;
 use dk_engine::{Engine, Refusal};
@@ -33,6 +39,12 @@ fn is_show(words: &[String]) -> bool
     words.len() == 1 && is_word(&words[0], "show")
 }
 
+fn is_commit(words: &[String]) -> bool
+    ensures { IsTrue result ↔ IsCommit words.now }
+{
+    words.len() == 1 && is_word(&words[0], "commit")
+}
+
 /// The moment up to which tombstones are expired.
 fn cut_at(now: i64) -> i64
     ensures { result ≡ cut_of now }
@@ -48,6 +60,7 @@ fn show_command<O: Sink>(alloc: Global, engine: &mut Engine, out: &mut O, now: i
     ensures store { result ≡ Status.Refused Refusal.Store → Rose (store_faults (held engine.old.store)) (store_faults (held engine.new.store)) }
     ensures taken { (path : List ℕ) → result ≡ Status.Refused (Refusal.Taken path) → ⊥ }
     ensures same { told (held engine.new.store) ≡ told (held engine.old.store) }
+    ensures lawful { KeepsLawful (told (held engine.old.store)) (told (held engine.new.store)) }
     ensures clashes { clashes (held engine.new.store) ≡ clashes (held engine.old.store) }
     ensures limits { engine.new.limits ≡ engine.old.limits }
     ensures store_later { store_faults (held engine.old.store) ≤ store_faults (held engine.new.store) }
@@ -67,12 +80,13 @@ fn show_command<O: Sink>(alloc: Global, engine: &mut Engine, out: &mut O, now: i
 /// All that the program does: carries out the command that the words say over the engine, and ends with a status.
 ///
 /// `now` is the moment of the call in milliseconds since 1970-01-01T00:00:00Z, and `base` the first of the ids that a
-/// command may draw. The whole output is made first and given to the sink at the end. By now the one command is `show`,
-/// which is the one word of that name.
+/// command may draw. By now the commands are `show` and `commit`, each of that one word. The whole output is made first
+/// and given to the sink at the end; `commit` reads the input to its end, and its transaction has the id `base`.
 ///
-/// `whole_log` is the promise in the subject's own words: over a log of commits 0 to n with protocol and metadata the
-/// sink took exactly the text of version n as the fold of all commits gives it. `answer` says the same of every log, and
-/// with it exactly when each refusal comes.
+/// `whole_log` is the promise on `show` in the subject's own words: over a log of commits 0 to n with protocol and
+/// metadata the sink took exactly the text of version n as the fold of all commits gives it. `show` says the same of
+/// every log, and with it exactly when each refusal comes. `commit` says which one event a commit adds, and exactly when
+/// each refusal comes. `lawful` is the promise on the log: whatever the command and its end, what was lawful stays so.
 pub fn run<I: Source, O: Sink>(
     alloc: Global,
     words: &[String],
@@ -82,29 +96,39 @@ pub fn run<I: Source, O: Sink>(
     now: i64,
     base: u128,
 ) -> Status
-    ensures usage { (result ≡ Status.Usage) ↔ (IsShow words.now → ⊥) }
-    ensures source { result ≡ Status.SourceFault → ⊥ }
+    requires { AreWithin engine.old.limits }
+    ensures usage { (result ≡ Status.Usage) ↔ ((IsShow words.now → ⊥) × (IsCommit words.now → ⊥)) }
+    ensures source { result ≡ Status.SourceFault → Rose (I.source_faults input.old) (I.source_faults input.new) }
     ensures sink { result ≡ Status.SinkFault → Rose (O.sink_faults out.old) (O.sink_faults out.new) }
     ensures store { result ≡ Status.Refused Refusal.Store → Rose (store_faults (held engine.old.store)) (store_faults (held engine.new.store)) }
-    ensures taken { (path : List ℕ) → result ≡ Status.Refused (Refusal.Taken path) → ⊥ }
-    ensures answer { IsShow words.now → IfSome (told (held engine.old.store))
+    ensures taken { (path : List ℕ) → result ≡ Status.Refused (Refusal.Taken path) → Rose (clashes (held engine.old.store)) (clashes (held engine.new.store)) }
+    ensures show { IsShow words.now → IfSome (told (held engine.old.store))
         (λ events. Answers (show events (cut_of now)) (O.taken out.old) result (O.taken out.new)) }
     ensures whole_log { IsShow words.now → IfSome (told (held engine.old.store))
         (λ events. (log : List (List Action)) (protocol : Protocol) (metadata : Metadata) → IsLog events log
         → (fold log).protocol ≡ Some protocol → (fold log).metadata ≡ Some metadata
         → Shows (shown (length log - 1) (fold log) (cut_of now)) (O.taken out.old) result (O.taken out.new)) }
+    ensures commit { IsCommit words.now → IfSome (told (held engine.old.store)) (λ events. IfSome (I.left input.old) (λ left.
+        CommitAnswers (actions_of engine.old.limits left) (λ actions. attempt events actions now base) events (O.taken out.old) result (O.taken out.new) (told (held engine.new.store)))) }
+    ensures lawful { KeepsLawful (told (held engine.old.store)) (told (held engine.new.store)) }
 
-    // What stays as it was, whatever the answer.
-    ensures same { told (held engine.new.store) ≡ told (held engine.old.store) }
-    ensures clashes { clashes (held engine.new.store) ≡ clashes (held engine.old.store) }
+    // What stays as it was.
+    ensures same { (IsCommit words.now → ⊥) → told (held engine.new.store) ≡ told (held engine.old.store) }
+    ensures same_clashes { (IsCommit words.now → ⊥) → clashes (held engine.new.store) ≡ clashes (held engine.old.store) }
+    ensures unread { (IsCommit words.now → ⊥) → input.new ≡ input.old }
+    ensures read { IsCommit words.now → result ≡ Status.Done → IfSome (I.left input.new) (λ left. left ≡ []) }
     ensures limits { engine.new.limits ≡ engine.old.limits }
-    ensures unread { input.new ≡ input.old }
     ensures unwritten { IsUnwritten result (O.taken out.old) (O.taken out.new) }
     ensures store_later { store_faults (held engine.old.store) ≤ store_faults (held engine.new.store) }
+    ensures clashes_later { clashes (held engine.old.store) ≤ clashes (held engine.new.store) }
+    ensures source_later { I.source_faults input.old ≤ I.source_faults input.new }
     ensures sink_later { O.sink_faults out.old ≤ O.sink_faults out.new }
 {
-    if !is_show(words) {
-        return Status::Usage;
+    if is_show(words) {
+        return show_command(alloc, engine, out, now);
     }
-    show_command(alloc, engine, out, now)
+    if is_commit(words) {
+        return commit_command(alloc, engine, input, out, now, base);
+    }
+    Status::Usage
 }

@@ -3,6 +3,7 @@ ghost use Rattle.std.specs.Prelude.{◌≡◌, ◌++◌, [], ◌∷◌, IfOk, On
 ghost use Rattle.std.specs.FinMap as maps;
 ghost use Rattle.std.specs.Option.{option_to_list};
 ghost use Rattle.dk_model.specs.Written.{text_of};
+ghost use Rattle.dk_cli.specs.Commit.{committed_line};
 ghost use Rattle.dk_cli.specs.Shown.{snapshot_line, head_text, file_actions, is_unexpired, live, removal, shown};
 
 use dk_actjson::{append_add, append_metadata, append_protocol, append_tombstone};
@@ -22,6 +23,20 @@ fn append_snapshot(alloc: Global, out: &mut Vec<u8>, version: u64) -> Result<(),
     out.extend_from_slice(&Value::from(line).to_vec(alloc)?)?;
     out.push(b'\n')?;
     Ok(())
+}
+
+/// `{"committed":{"version":V}}` and a newline.
+#[tactic(auto, unfolding(crate::specs::Commit::committed_data, dk_model::specs::Shown::object_with))]
+pub(crate) fn committed_text(alloc: Global, version: u64) -> Result<Vec<u8>, AllocError>
+    ensures { IfOk result (λ text. text.items ≡ committed_line version) }
+{
+    let mut committed = Map::new(alloc);
+    serde_json::put(&mut committed, alloc, "version", Value::from(version))?;
+    let mut line = Map::new(alloc);
+    serde_json::put(&mut line, alloc, "committed", Value::from(committed))?;
+    let mut text = Value::from(line).to_vec(alloc)?;
+    text.push(b'\n')?;
+    Ok(text)
 }
 
 /// A line for each file, by path.

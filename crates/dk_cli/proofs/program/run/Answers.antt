@@ -5,5 +5,5 @@ use Rattle.dk_cli.specs.Show.{cut_of}
 use Rattle.dk_cli.proofs.History.{whole_log}
 use Rattle.dk_cli.proofs.program.run.Goals as goal
 
-pub returns-clause-whole_log : goal.returns-clause-whole_log
-returns-clause-whole_log g c = λ _. whole_log _ (cut_of c.args.now) _ _ _ _ (ap cut_of (to_z-of_z w64 c.args.now c.ranges.now)) c.show_command.ensures.answer
+pub returns-then-is_show-clause-whole_log : goal.returns-then-is_show-clause-whole_log
+returns-then-is_show-clause-whole_log g c = λ _. whole_log _ (cut_of c.args.now) _ _ _ _ (ap cut_of (to_z-of_z w64 c.args.now c.ranges.now)) c.show_command.ensures.answer
