@@ -5,4 +5,3 @@ pub mod Pieces
 pub mod Shown
 pub mod Inputs
 pub mod Scans
-pub mod Plain

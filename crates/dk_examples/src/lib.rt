@@ -3,4 +3,6 @@
 #![tactic(auto)]
 
 #[cfg(test)]
+mod commit;
+#[cfg(test)]
 mod show;
