@@ -19,7 +19,8 @@ const SHOWN: &str = r#"{"snapshot":{"version":0}}
 {"add":{"dataChange":false,"modificationTime":5,"partitionValues":{},"path":"a","size":1}}
 "#;
 
-const METADATA: &str = r#"{"metaData":{"configuration":{},"format":{"options":{},"provider":"parquet"},"id":"t","partitionColumns":[],"schemaString":"{}"}}
+const METADATA: &str =
+    r#"{"metaData":{"configuration":{},"format":{"options":{},"provider":"parquet"},"id":"t","partitionColumns":[],"schemaString":"{}"}}
 "#;
 
 /// An input, what fails of the store or of the source, what `commit` over an empty store then answers, and what `show`
@@ -140,10 +141,26 @@ fn try_case(rt: &impl Abort, alloc: Global, case: &Case) -> Result<(), AllocErro
     };
     let mut input = source(alloc, case.input, case.silent)?;
     let wanted = (case.code, case.line, case.fault);
-    call(rt, alloc, &mut engine, "commit", &mut input, wanted, case.name)?;
+    call(
+        rt,
+        alloc,
+        &mut engine,
+        "commit",
+        &mut input,
+        wanted,
+        case.name,
+    )?;
     let code = if case.shown.is_empty() { 4 } else { 0 };
     let mut nothing = source(alloc, "", false)?;
-    call(rt, alloc, &mut engine, "show", &mut nothing, (code, case.shown, ""), case.name)
+    call(
+        rt,
+        alloc,
+        &mut engine,
+        "show",
+        &mut nothing,
+        (code, case.shown, ""),
+        case.name,
+    )
 }
 
 #[test]
