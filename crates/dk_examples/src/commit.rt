@@ -102,6 +102,7 @@ fn call(
     let mut words = Vec::new(alloc);
     words.push(String::from_str(alloc, word)?)?;
     let mut out = MemSink::new(alloc, Vec::new(alloc));
+    engine.limits = Limits::usual();
     let status = run(alloc, &words, engine, input, &mut out, 1000, 32);
     assert_eq!(rt; status.code(), wanted.0, "{name}");
     assert!(rt; out.taken() == wanted.1.as_bytes(), "{name}");
