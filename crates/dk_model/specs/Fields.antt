@@ -45,6 +45,10 @@ below limit n = if nat_lt n limit then Some n else None
 abbrev pub version : Data → Option ℕ
 version d = option_and_then (below (2 ^ 31)) (option_and_then as_u64 (as_number d))
 
+-- from 0 to 9,223,372,036,854,775,807
+abbrev pub count : Data → Option ℕ
+count d = option_and_then (below (2 ^ 63)) (option_and_then as_u64 (as_number d))
+
 abbrev pub text : Data → Option (List ℕ)
 text = as_str
 

@@ -11,10 +11,13 @@ pub mod MetadataObject
 pub mod AddObject
 pub mod RemoveObject
 pub mod ActionKeys
+pub mod TxnObject
+pub mod DomainObject
 pub mod InfoObject
-pub mod PlainTables
+pub mod CheckpointObjects
 pub mod ActionObject
 pub mod CommitText
 pub mod Written
 pub mod ReadBack
 pub mod LineFaults
+pub mod Kinds

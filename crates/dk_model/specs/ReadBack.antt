@@ -5,8 +5,7 @@ use Rattle.std.specs.Str.{IsUtf8}
 use Rattle.dk_model.specs.declared.action.Action.{Action}
 use Rattle.dk_model.specs.declared.action.Action.TheVariants as action
 use Rattle.dk_model.specs.Pairs.{AreKeysRising}
-use Rattle.dk_model.specs.PlainTables.{is_plain}
-use Rattle.dk_model.specs.Ranges.{IsWhole, IsProtocolInRange, IsInRange}
+use Rattle.dk_model.specs.Ranges.{IsWhole, IsProtocolInRange, IsCheckpointMetaInRange, IsInRange}
 use Rattle.dk_model.specs.CommitText.{commit_of}
 use Rattle.dk_model.specs.Written.{written_line, text_of, own_info_line}
 
@@ -16,15 +15,30 @@ HasRisingKeys (action.Protocol p) = Unit {0}
 HasRisingKeys (action.Metadata m) = AreKeysRising m.options × AreKeysRising m.configuration
 HasRisingKeys (action.Add f) = AreKeysRising f.partition_values × IfSome f.tags AreKeysRising
 HasRisingKeys (action.Remove r) = Unit {0}
+HasRisingKeys (action.Txn t) = Unit {0}
+HasRisingKeys (action.Domain d) = Unit {0}
 HasRisingKeys (action.Info i) = Unit {0}
+HasRisingKeys action.Cdc = Unit {0}
+HasRisingKeys (action.CheckpointMeta m) = Unit {0}
+HasRisingKeys (action.Sidecar r) = Unit {0}
 
--- the versions of a protocol are in range, which their type doesn't say
+-- the versions of a protocol or checkpoint are in range, which their type doesn't say
 abbrev pub HasVersionsInRange : Action → Type 0
 HasVersionsInRange (action.Protocol p) = IsProtocolInRange p
 HasVersionsInRange (action.Metadata m) = Unit {0}
 HasVersionsInRange (action.Add f) = Unit {0}
 HasVersionsInRange (action.Remove r) = Unit {0}
+HasVersionsInRange (action.Txn t) = Unit {0}
+HasVersionsInRange (action.Domain d) = Unit {0}
 HasVersionsInRange (action.Info i) = Unit {0}
+HasVersionsInRange action.Cdc = Unit {0}
+HasVersionsInRange (action.CheckpointMeta m) = IsCheckpointMetaInRange m
+HasVersionsInRange (action.Sidecar r) = Unit {0}
+
+-- a deletion vector stands beside the file, which isn't written
+abbrev pub has_vector : Action → Bool
+has_vector (action.Add f) = f.vector
+has_vector _ = false
 
 -- what the types of its parts keep: numbers of 64 bits, maps in the order of their keys, texts in UTF-8
 pub record IsSound (a : Action) : Type 0 where
@@ -32,10 +46,10 @@ pub record IsSound (a : Action) : Type 0 where
   pub keys : HasRisingKeys a
   pub utf8 : IsUtf8 (written_line a)
 
--- what they don't: versions in range, and a table that is read so far, so no deletion vector
+-- what they don't: versions in range, and no deletion vector
 pub record IsReadable (a : Action) : Type 0 where
   pub versions : HasVersionsInRange a
-  pub plain : is_plain a ≡ true
+  pub no_vector : has_vector a ≡ false
 
 -- an action whose line is read as that action
 pub record IsWritable (a : Action) : Type 0 where
@@ -48,7 +62,12 @@ is_written (action.Protocol p) = true
 is_written (action.Metadata m) = true
 is_written (action.Add f) = true
 is_written (action.Remove r) = true
+is_written (action.Txn t) = true
+is_written (action.Domain d) = true
 is_written (action.Info i) = false
+is_written action.Cdc = false
+is_written (action.CheckpointMeta m) = true
+is_written (action.Sidecar r) = true
 
 abbrev pub written_of : List Action → List Action
 written_of actions = filter is_written actions

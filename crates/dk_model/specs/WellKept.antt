@@ -4,7 +4,7 @@ use Rattle.std.specs.FinMap as map
 use Rattle.dk_model.specs.declared.action.Action.{Action}
 use Rattle.dk_model.specs.declared.state.TableState.{TableState}
 use Rattle.dk_model.specs.State.{step, empty_state}
-use Rattle.dk_model.specs.Ranges.{IsWhole, IsProtocolInRange, IsMetadataInRange, IsAddInRange, IsInRange}
+use Rattle.dk_model.specs.Ranges.{IsWhole, IsProtocolInRange, IsMetadataInRange, IsAddInRange, IsApplicationInRange, IsInRange}
 
 pub record IsWellKept (s : TableState) : Type 0 where
   -- each file stands under its own path
@@ -18,6 +18,7 @@ pub record IsWellKept (s : TableState) : Type 0 where
   pub metadata : IfSome s.metadata IsMetadataInRange
   pub files : (q : List ℕ) → IfSome (map.get s.files q) IsAddInRange
   pub tombstones : (q : List ℕ) → IfSome (map.get s.tombstones q) IsWhole
+  pub applications : (q : List ℕ) → IfSome (map.get s.applications q) IsApplicationInRange
 
 -- it holds of the empty state, and each step keeps it
 abbrev pub StaysWellKept : Type 0

@@ -10,13 +10,18 @@ use Rattle.dk_model.specs.InfoObject.{own_info_object}
 abbrev pub line_of : Action → List ℕ
 line_of a = compact_text (object_of a) ++ 10 ∷ []
 
--- what is written of an action: what another writer said of its commit is left out
+-- what is written of an action: what another writer said of its commit is left out, and so are changed rows
 abbrev pub written_line : Action → List ℕ
 written_line (action.Protocol p) = line_of (action.Protocol p)
 written_line (action.Metadata m) = line_of (action.Metadata m)
 written_line (action.Add f) = line_of (action.Add f)
 written_line (action.Remove r) = line_of (action.Remove r)
+written_line (action.Txn t) = line_of (action.Txn t)
+written_line (action.Domain d) = line_of (action.Domain d)
 written_line (action.Info i) = []
+written_line action.Cdc = []
+written_line (action.CheckpointMeta m) = line_of (action.CheckpointMeta m)
+written_line (action.Sidecar r) = line_of (action.Sidecar r)
 
 abbrev pub text_of : List Action → List ℕ
 text_of actions = flat_map written_line actions

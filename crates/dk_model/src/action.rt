@@ -70,6 +70,45 @@ pub struct RemoveFile {
     pub data_change: bool,
 }
 
+/// The last version of an application's own that a commit has recorded ("Transaction Identifiers").
+#[derive(Debug, Drop)]
+pub struct Txn {
+    /// The application, by a name of its own.
+    pub app_id: Text,
+    /// The application's own count.
+    pub version: i64,
+    /// When it was recorded, in milliseconds since 1970-01-01T00:00:00Z.
+    pub last_updated: Option<i64>,
+}
+
+/// Settings that a writer or a feature of the table keeps under a name of its own ("Domain Metadata").
+#[derive(Debug, Drop)]
+pub struct Domain {
+    pub domain: Text,
+    /// The settings, in a form of the domain's own.
+    pub configuration: Text,
+    /// Whether the domain goes with this action.
+    pub removed: bool,
+}
+
+/// The version that a V2 checkpoint is of ("Checkpoint Metadata").
+#[derive(Debug, Drop)]
+pub struct CheckpointMeta {
+    /// From 0 to 9,223,372,036,854,775,807.
+    pub version: u64,
+}
+
+/// An object that has file actions of a V2 checkpoint ("Sidecar File Information").
+#[derive(Debug, Drop)]
+pub struct SidecarRef {
+    /// The object's name, or a path that ends in it.
+    pub path: Text,
+    /// In bytes.
+    pub size: i64,
+    /// When the object was made, in milliseconds since 1970-01-01T00:00:00Z.
+    pub stamp: i64,
+}
+
 /// What the writer of a commit says of it, as far as it is read ("Commit Provenance Information").
 #[derive(Debug, Drop)]
 pub struct CommitInfo {
@@ -80,12 +119,18 @@ pub struct CommitInfo {
     pub txn_id: Option<Text>,
 }
 
-/// One line of a commit: a change of the table, or what the writer says of the commit.
+/// One line of a commit or checkpoint: a change of the table, or what its writer says of it.
 #[derive(Debug, Drop)]
 pub enum Action {
     Protocol(Protocol),
     Metadata(Metadata),
     Add(AddFile),
     Remove(RemoveFile),
+    Txn(Txn),
+    Domain(Domain),
     Info(CommitInfo),
+    /// A file of changed rows, which is read by other means ("Add CDC File").
+    Cdc,
+    CheckpointMeta(CheckpointMeta),
+    Sidecar(SidecarRef),
 }

@@ -2,7 +2,10 @@
 
 ghost use Rattle.std.specs.Prelude.{◌≡◌, IfOk};
 
-use crate::action::{Action, AddFile, CommitInfo, Metadata, Protocol, RemoveFile};
+use crate::action::{
+    Action, AddFile, CheckpointMeta, CommitInfo, Domain, Metadata, Protocol, RemoveFile,
+    SidecarRef, Txn,
+};
 use crate::commit::Commit;
 use crate::pairs::Pairs;
 use crate::text::{Names, Text};
@@ -140,6 +143,56 @@ impl RemoveFile {
     }
 }
 
+impl Txn {
+    /// An application's version of the same content.
+    pub fn copy(&self, alloc: Global) -> Result<Txn, AllocError>
+        ensures { IfOk result (λ t. t ≡ self.now) }
+    {
+        Ok(Txn {
+            app_id: self.app_id.copy(alloc)?,
+            version: self.version,
+            last_updated: self.last_updated,
+        })
+    }
+}
+
+impl Domain {
+    /// A domain of the same content.
+    pub fn copy(&self, alloc: Global) -> Result<Domain, AllocError>
+        ensures { IfOk result (λ d. d ≡ self.now) }
+    {
+        Ok(Domain {
+            domain: self.domain.copy(alloc)?,
+            configuration: self.configuration.copy(alloc)?,
+            removed: self.removed,
+        })
+    }
+}
+
+impl CheckpointMeta {
+    /// A checkpoint's version of the same content. Takes no memory, so it never answers `Err`.
+    pub fn copy(&self, _alloc: Global) -> Result<CheckpointMeta, AllocError>
+        ensures { IfOk result (λ m. m ≡ self.now) }
+    {
+        Ok(CheckpointMeta {
+            version: self.version,
+        })
+    }
+}
+
+impl SidecarRef {
+    /// A sidecar's entry of the same content.
+    pub fn copy(&self, alloc: Global) -> Result<SidecarRef, AllocError>
+        ensures { IfOk result (λ r. r ≡ self.now) }
+    {
+        Ok(SidecarRef {
+            path: self.path.copy(alloc)?,
+            size: self.size,
+            stamp: self.stamp,
+        })
+    }
+}
+
 impl CommitInfo {
     /// What is said of a commit, of the same content.
     pub fn copy(&self, alloc: Global) -> Result<CommitInfo, AllocError>
@@ -162,7 +215,12 @@ impl Action {
             Action::Metadata(metadata) => Ok(Action::Metadata(metadata.copy(alloc)?)),
             Action::Add(file) => Ok(Action::Add(file.copy(alloc)?)),
             Action::Remove(file) => Ok(Action::Remove(file.copy(alloc)?)),
+            Action::Txn(txn) => Ok(Action::Txn(txn.copy(alloc)?)),
+            Action::Domain(domain) => Ok(Action::Domain(domain.copy(alloc)?)),
             Action::Info(info) => Ok(Action::Info(info.copy(alloc)?)),
+            Action::Cdc => Ok(Action::Cdc),
+            Action::CheckpointMeta(meta) => Ok(Action::CheckpointMeta(meta.copy(alloc)?)),
+            Action::Sidecar(sidecar) => Ok(Action::Sidecar(sidecar.copy(alloc)?)),
         }
     }
 }

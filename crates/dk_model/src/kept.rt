@@ -2,10 +2,10 @@
 
 ghost use Rattle.std.specs.Prelude.{IfSome};
 ghost use Rattle.dk_model.specs.Pairs.{AreKeysRising};
-ghost use Rattle.dk_model.specs.Ranges.{IsWhole, IsMetadataInRange, IsAddInRange, IsRemoveInRange, IsInfoInRange, IsInRange};
+ghost use Rattle.dk_model.specs.Ranges.{IsWhole, IsMetadataInRange, IsAddInRange, IsRemoveInRange, IsTxnInRange, IsInfoInRange, IsSidecarInRange, IsInRange};
 ghost use Rattle.dk_model.specs.ReadBack.{HasRisingKeys, HasVersionsInRange};
 
-use crate::action::{Action, AddFile, CommitInfo, Metadata, RemoveFile};
+use crate::action::{Action, AddFile, CommitInfo, Metadata, RemoveFile, SidecarRef, Txn};
 use crate::pairs::Pairs;
 
 impl Action {
@@ -20,7 +20,11 @@ impl Action {
             Action::Metadata(metadata) => note_metadata(metadata),
             Action::Add(file) => note_add(file),
             Action::Remove(file) => note_remove(file),
+            Action::Txn(txn) => note_txn(txn),
+            Action::Domain(_) => {}
             Action::Info(info) => note_info(info),
+            Action::Cdc | Action::CheckpointMeta(_) => {}
+            Action::Sidecar(sidecar) => note_sidecar(sidecar),
         }
     }
 }
@@ -52,6 +56,20 @@ fn note_remove(file: &RemoveFile)
     ensures { IsRemoveInRange file.now }
 {
     note_number(file.deletion_timestamp);
+}
+
+fn note_txn(txn: &Txn)
+    ensures { IsTxnInRange txn.now }
+{
+    note_number(txn.version);
+    note_numbers(&txn.last_updated);
+}
+
+fn note_sidecar(sidecar: &SidecarRef)
+    ensures { IsSidecarInRange sidecar.now }
+{
+    note_number(sidecar.size);
+    note_number(sidecar.stamp);
 }
 
 fn note_info(info: &CommitInfo)

@@ -9,6 +9,7 @@ mod commit;
 mod copied;
 mod fault;
 mod kept;
+mod kind;
 pub mod laws;
 mod pairs;
 mod state;
@@ -17,11 +18,15 @@ mod tests;
 mod text;
 mod text_map;
 
-pub use action::{Action, AddFile, CommitInfo, Metadata, Protocol, RemoveFile};
+pub use action::{
+    Action, AddFile, CheckpointMeta, CommitInfo, Domain, Metadata, Protocol, RemoveFile,
+    SidecarRef, Txn,
+};
 pub use action_key::ActionKey;
 pub use commit::Commit;
 pub use fault::LineFault;
+pub use kind::Kind;
 pub use pairs::Pairs;
-pub use state::TableState;
+pub use state::{Application, TableState};
 pub use text::{Names, Text};
 pub use text_map::{Entries, IntoEntries, TextMap};

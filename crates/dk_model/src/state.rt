@@ -1,9 +1,19 @@
 //! What a table is at a version.
 
-use crate::action::{Action, AddFile, Metadata, Protocol, RemoveFile};
+use crate::action::{Action, AddFile, Domain, Metadata, Protocol, RemoveFile, Txn};
 use crate::commit::Commit;
+use crate::text::Text;
 use crate::text_map::TextMap;
 use std::alloc::{AllocError, Global};
+
+/// What an application has recorded last.
+#[derive(Debug, Drop)]
+pub struct Application {
+    /// The application's own count.
+    pub version: i64,
+    /// When it was recorded, in milliseconds since 1970-01-01T00:00:00Z.
+    pub last_updated: Option<i64>,
+}
 
 /// What a table is at a version (Delta Lake's PROTOCOL.md, "Action Reconciliation").
 #[derive(Drop)]
@@ -17,6 +27,10 @@ pub struct TableState {
     /// The removed files: each path with the time of its removal, in milliseconds since
     /// 1970-01-01T00:00:00Z.
     pub tombstones: TextMap<i64>,
+    /// What each application has recorded last, by its name.
+    pub applications: TextMap<Application>,
+    /// The configuration of each domain, by its name.
+    pub domains: TextMap<Text>,
 }
 
 impl TableState {
@@ -32,6 +46,8 @@ impl TableState {
             metadata: None,
             files: TextMap::new(alloc),
             tombstones: TextMap::new(alloc),
+            applications: TextMap::new(alloc),
+            domains: TextMap::new(alloc),
         }
     }
 
@@ -71,7 +87,11 @@ impl TableState {
             }
             Action::Add(file) => self.add(alloc, file),
             Action::Remove(file) => self.remove(file),
-            Action::Info(_) => Ok(()),
+            Action::Txn(txn) => self.record(txn),
+            Action::Domain(domain) => self.set_domain(domain),
+            Action::Info(_) | Action::Cdc | Action::CheckpointMeta(_) | Action::Sidecar(_) => Ok(
+                (),
+            ),
         }
     }
 
@@ -90,5 +110,26 @@ impl TableState {
     {
         self.files.remove(file.path.as_str());
         self.tombstones.insert(file.path, file.deletion_timestamp)
+    }
+
+    fn record(&mut self, txn: Txn) -> Result<(), AllocError>
+        ensures { OnOk result (self.new ≡ step self.old (Action.Txn txn)) }
+    {
+        let application = Application {
+            version: txn.version,
+            last_updated: txn.last_updated,
+        };
+        self.applications.insert(txn.app_id, application)
+    }
+
+    fn set_domain(&mut self, domain: Domain) -> Result<(), AllocError>
+        ensures { OnOk result (self.new ≡ step self.old (Action.Domain domain)) }
+    {
+        if domain.removed {
+            self.domains.remove(domain.domain.as_str());
+            Ok(())
+        } else {
+            self.domains.insert(domain.domain, domain.configuration)
+        }
     }
 }
