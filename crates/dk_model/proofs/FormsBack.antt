@@ -10,7 +10,7 @@ use Rattle.std.proofs.lemmas.Bool.{lt-ltb}
 use Rattle.serde_json.specs.Data.{Members, no_members, member, put}
 use Rattle.dk_model.specs.Pairs.{AreKeysRising}
 use Rattle.dk_model.specs.Ranges.{IsWhole}
-use Rattle.dk_model.specs.Fields.{whole, version, names, pairs, pairs_of}
+use Rattle.dk_model.specs.Fields.{whole, version, count, names, pairs, pairs_of}
 use Rattle.dk_model.specs.Shown.{whole_data, version_data, names_data, text_or_null_data, with_pairs, pairs_data}
 
 pub whole_back : (z : ℤ) → IsWhole z → whole (whole_data z) ≡ Some z
@@ -19,6 +19,9 @@ whole_back (negsuc n) h = refl
 
 pub version_back : (n : ℕ) → n < 2 ^ 31 → version (version_data n) ≡ Some n
 version_back n h = rw (lt-ltb n (2 ^ 31) h)
+
+pub count_back : (n : ℕ) → n < 2 ^ 63 → count (version_data n) ≡ Some n
+count_back n h = rw (lt-ltb n (2 ^ 63) h)
 
 pub names_back : (ns : List (List ℕ)) → names (names_data ns) ≡ Some ns
 names_back [] = refl

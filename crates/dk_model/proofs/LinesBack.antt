@@ -60,7 +60,7 @@ with_newline xs u = IsUtf8-append xs (10 ∷ []) u (IsUtf8-are_ascii (10 ∷ [])
 pub read_back : (a : Action) → is_written a ≡ true → IsWritable a → IsUtf8 (line_of a) → IsReadBack a
 read_back a e h utf8 =
     let range = h.sound.range h.readable.versions in
-    line_back (object_of a) a (begins a) (without_newline (compact_text (object_of a)) utf8) (shown_action a range) (action_back a e range h.readable.plain h.sound.keys)
+    line_back (object_of a) a (begins a) (without_newline (compact_text (object_of a)) utf8) (shown_action a range) (action_back a e range h.readable.no_vector h.sound.keys)
 
 -- ---- the lines of a text
 
@@ -104,7 +104,12 @@ lines_before (action.Protocol p ∷ rest) h n bytes = one_more (action.Protocol 
 lines_before (action.Metadata m ∷ rest) h n bytes = one_more (action.Metadata m) rest (read_back (action.Metadata m) refl h.0 h.0.sound.utf8) (lines_before rest h.1) n bytes
 lines_before (action.Add f ∷ rest) h n bytes = one_more (action.Add f) rest (read_back (action.Add f) refl h.0 h.0.sound.utf8) (lines_before rest h.1) n bytes
 lines_before (action.Remove r ∷ rest) h n bytes = one_more (action.Remove r) rest (read_back (action.Remove r) refl h.0 h.0.sound.utf8) (lines_before rest h.1) n bytes
+lines_before (action.Txn t ∷ rest) h n bytes = one_more (action.Txn t) rest (read_back (action.Txn t) refl h.0 h.0.sound.utf8) (lines_before rest h.1) n bytes
+lines_before (action.Domain d ∷ rest) h n bytes = one_more (action.Domain d) rest (read_back (action.Domain d) refl h.0 h.0.sound.utf8) (lines_before rest h.1) n bytes
 lines_before (action.Info i ∷ rest) h n bytes = lines_before rest h.1 n bytes
+lines_before (action.Cdc ∷ rest) h n bytes = lines_before rest h.1 n bytes
+lines_before (action.CheckpointMeta m ∷ rest) h n bytes = one_more (action.CheckpointMeta m) rest (read_back (action.CheckpointMeta m) refl h.0 h.0.sound.utf8) (lines_before rest h.1) n bytes
+lines_before (action.Sidecar r ∷ rest) h n bytes = one_more (action.Sidecar r) rest (read_back (action.Sidecar r) refl h.0 h.0.sound.utf8) (lines_before rest h.1) n bytes
 
 text_read : (n : ℕ) (actions : List Action) → AllByRecursion IsWritable actions → reading n (lines_of (text_of actions)) ≡ Ok (written_of actions)
 text_read n actions h =
@@ -148,4 +153,9 @@ lines_are_utf8 (action.Protocol p ∷ rest) u = let parts = first_utf8 (action.P
 lines_are_utf8 (action.Metadata m ∷ rest) u = let parts = first_utf8 (action.Metadata m) (text_of rest) u in (parts.0, lines_are_utf8 rest parts.1)
 lines_are_utf8 (action.Add f ∷ rest) u = let parts = first_utf8 (action.Add f) (text_of rest) u in (parts.0, lines_are_utf8 rest parts.1)
 lines_are_utf8 (action.Remove r ∷ rest) u = let parts = first_utf8 (action.Remove r) (text_of rest) u in (parts.0, lines_are_utf8 rest parts.1)
+lines_are_utf8 (action.Txn t ∷ rest) u = let parts = first_utf8 (action.Txn t) (text_of rest) u in (parts.0, lines_are_utf8 rest parts.1)
+lines_are_utf8 (action.Domain d ∷ rest) u = let parts = first_utf8 (action.Domain d) (text_of rest) u in (parts.0, lines_are_utf8 rest parts.1)
 lines_are_utf8 (action.Info i ∷ rest) u = (IsUtf8-nil, lines_are_utf8 rest u)
+lines_are_utf8 (action.Cdc ∷ rest) u = (IsUtf8-nil, lines_are_utf8 rest u)
+lines_are_utf8 (action.CheckpointMeta m ∷ rest) u = let parts = first_utf8 (action.CheckpointMeta m) (text_of rest) u in (parts.0, lines_are_utf8 rest parts.1)
+lines_are_utf8 (action.Sidecar r ∷ rest) u = let parts = first_utf8 (action.Sidecar r) (text_of rest) u in (parts.0, lines_are_utf8 rest parts.1)

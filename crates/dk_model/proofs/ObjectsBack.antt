@@ -7,24 +7,30 @@ use Rattle.dk_model.specs.declared.action.Protocol.{Protocol}
 use Rattle.dk_model.specs.declared.action.Metadata.{Metadata}
 use Rattle.dk_model.specs.declared.action.AddFile.{AddFile}
 use Rattle.dk_model.specs.declared.action.RemoveFile.{RemoveFile}
+use Rattle.dk_model.specs.declared.action.Txn.{Txn}
+use Rattle.dk_model.specs.declared.action.Domain.{Domain}
+use Rattle.dk_model.specs.declared.action.CheckpointMeta.{CheckpointMeta}
+use Rattle.dk_model.specs.declared.action.SidecarRef.{SidecarRef}
 use Rattle.dk_model.specs.declared.action.Action.{Action}
 use Rattle.dk_model.specs.declared.action.Action.TheVariants as action
 use Rattle.dk_model.specs.declared.action_key.ActionKey.TheVariants as key
 use Rattle.dk_model.specs.ActionKeys.{all_keys}
-use Rattle.dk_model.specs.Fields.{present, field, formed, optional, needed, lenient, whole, version, text, flag, names, pairs, group}
+use Rattle.dk_model.specs.Fields.{present, field, formed, optional, needed, lenient, whole, version, count, text, flag, names, pairs, group}
 use Rattle.dk_model.specs.Shown.{Field, text_data, whole_data, names_data, pairs_data, object_with, Shows}
 use Rattle.dk_model.specs.ProtocolObject.{protocol_of, protocol_fields}
 use Rattle.dk_model.specs.MetadataObject.{format_of, metadata_of, format_fields, metadata_fields}
 use Rattle.dk_model.specs.AddObject.{add_of, add_fields}
 use Rattle.dk_model.specs.RemoveObject.{remove_of, remove_fields}
+use Rattle.dk_model.specs.TxnObject.{txn_of, txn_fields}
+use Rattle.dk_model.specs.DomainObject.{domain_of, domain_fields}
+use Rattle.dk_model.specs.CheckpointObjects.{checkpoint_meta_of, checkpoint_meta_fields, sidecar_of, sidecar_fields}
 use Rattle.dk_model.specs.InfoObject.{info_of, own_info_fields, own_info_object}
-use Rattle.dk_model.specs.PlainTables.{is_plain}
-use Rattle.dk_model.specs.ActionObject.{action_under, plain, action_of, inner_object, object_of}
-use Rattle.dk_model.specs.Ranges.{IsWhole, IsProtocolInRange, IsMetadataInRange, IsAddInRange, IsRemoveInRange, IsInRange}
-use Rattle.dk_model.specs.ReadBack.{HasRisingKeys, is_written, own_info}
+use Rattle.dk_model.specs.ActionObject.{action_under, action_of, inner_object, object_of}
+use Rattle.dk_model.specs.Ranges.{IsWhole, IsProtocolInRange, IsMetadataInRange, IsAddInRange, IsRemoveInRange, IsTxnInRange, IsCheckpointMetaInRange, IsSidecarInRange, IsInRange}
+use Rattle.dk_model.specs.ReadBack.{HasRisingKeys, has_vector, is_written, own_info}
 use Rattle.dk_model.proofs.Found.{found}
 use Rattle.dk_model.proofs.ShownFields.{shown_at, optional_shown, shows_object}
-use Rattle.dk_model.proofs.FormsBack.{whole_back, version_back, names_back, pairs_back, at_some}
+use Rattle.dk_model.proofs.FormsBack.{whole_back, version_back, count_back, names_back, pairs_back, at_some}
 
 -- ---- the readings
 
@@ -111,6 +117,41 @@ remove_shown r d h shows =
     let change : optional flag (codes "dataChange") d ≡ Some (Some r.data_change) = ap (formed flag) (shown_at (codes "dataChange") fs d _ shows refl) in
     rw (path, time, change)
 
+pub txn_shown : (t : Txn) (d : Data) → IsTxnInRange t → Shows (txn_fields t) d → txn_of d ≡ Some t
+unfolding txn_of txn_fields
+txn_shown t d h shows =
+    let fs = txn_fields t in
+    let application : needed text (codes "appId") d ≡ Some t.app_id = ap (option_and_then text) (shown_at (codes "appId") fs d _ shows refl) in
+    let count : needed whole (codes "version") d ≡ Some t.version = ap (option_and_then whole) (shown_at (codes "version") fs d _ shows refl) ∙ whole_back _ h.version in
+    let updated : optional whole (codes "lastUpdated") d ≡ Some t.last_updated =
+    optional_shown whole whole_data t.last_updated (codes "lastUpdated") d (shown_at (codes "lastUpdated") fs d _ shows refl) (λ x e. whole_back x (at_some IsWhole t.last_updated h.updated x e)) in
+    rw (application, count, updated)
+
+pub domain_shown : (m : Domain) (d : Data) → Shows (domain_fields m) d → domain_of d ≡ Some m
+unfolding domain_of domain_fields
+domain_shown m d shows =
+    let fs = domain_fields m in
+    let domain : needed text (codes "domain") d ≡ Some m.domain = ap (option_and_then text) (shown_at (codes "domain") fs d _ shows refl) in
+    let configuration : needed text (codes "configuration") d ≡ Some m.configuration = ap (option_and_then text) (shown_at (codes "configuration") fs d _ shows refl) in
+    let removed : needed flag (codes "removed") d ≡ Some m.removed = ap (option_and_then flag) (shown_at (codes "removed") fs d _ shows refl) in
+    rw (domain, configuration, removed)
+
+pub checkpoint_meta_shown : (m : CheckpointMeta) (d : Data) → IsCheckpointMetaInRange m → Shows (checkpoint_meta_fields m) d → checkpoint_meta_of d ≡ Some m
+unfolding checkpoint_meta_of checkpoint_meta_fields
+checkpoint_meta_shown m d h shows =
+    let fs = checkpoint_meta_fields m in
+    let given : needed count (codes "version") d ≡ Some m.version = ap (option_and_then count) (shown_at (codes "version") fs d _ shows refl) ∙ count_back _ h.version in
+    rw given
+
+pub sidecar_shown : (r : SidecarRef) (d : Data) → IsSidecarInRange r → Shows (sidecar_fields r) d → sidecar_of d ≡ Some r
+unfolding sidecar_of sidecar_fields
+sidecar_shown r d h shows =
+    let fs = sidecar_fields r in
+    let path : needed text (codes "path") d ≡ Some r.path = ap (option_and_then text) (shown_at (codes "path") fs d _ shows refl) in
+    let size : needed whole (codes "sizeInBytes") d ≡ Some r.size = ap (option_and_then whole) (shown_at (codes "sizeInBytes") fs d _ shows refl) ∙ whole_back _ h.size in
+    let stamp : needed whole (codes "modificationTime") d ≡ Some r.stamp = ap (option_and_then whole) (shown_at (codes "modificationTime") fs d _ shows refl) ∙ whole_back _ h.stamp in
+    rw (path, size, stamp)
+
 -- ---- the objects that are written
 
 value_if : {A : Type 0} (shown : A → Data) (o : Option A) → ((x : A) → present (Some (shown x)) ≡ Some (shown x)) → present (option_map shown o) ≡ option_map shown o
@@ -159,31 +200,36 @@ own_info_shows : (txn_id : List ℕ) (timestamp : ℤ) → Shows (own_info_field
 unfolding own_info_fields
 own_info_shows txn_id timestamp = shows_object (own_info_fields txn_id timestamp) refl (refl, (refl, (refl, tt)))
 
+txn_object_shows : (t : Txn) → Shows (txn_fields t) (object_with (txn_fields t))
+unfolding txn_fields
+txn_object_shows t = shows_object (txn_fields t) refl (refl, (value_if whole_data t.last_updated (λ _. refl), (refl, tt)))
+
+domain_object_shows : (d : Domain) → Shows (domain_fields d) (object_with (domain_fields d))
+unfolding domain_fields
+domain_object_shows d = shows_object (domain_fields d) refl (refl, (refl, (refl, tt)))
+
+checkpoint_meta_object_shows : (m : CheckpointMeta) → Shows (checkpoint_meta_fields m) (object_with (checkpoint_meta_fields m))
+unfolding checkpoint_meta_fields
+checkpoint_meta_object_shows m = shows_object (checkpoint_meta_fields m) refl (refl, tt)
+
+sidecar_object_shows : (r : SidecarRef) → Shows (sidecar_fields r) (object_with (sidecar_fields r))
+unfolding sidecar_fields
+sidecar_object_shows r = shows_object (sidecar_fields r) refl (refl, (refl, (refl, tt)))
+
 -- ---- the actions
 
-if_plain : (a : Action) → is_plain a ≡ true → plain a ≡ Some a
-if_plain a e = rw e
-
-negated : (b : Bool) → not b ≡ true → b ≡ false
-negated true e = cc
-negated false e = refl
-
-pub action_back : (a : Action) → is_written a ≡ true → IsInRange a → is_plain a ≡ true → HasRisingKeys a → action_of (object_of a) ≡ Some (Some a)
+pub action_back : (a : Action) → is_written a ≡ true → IsInRange a → has_vector a ≡ false → HasRisingKeys a → action_of (object_of a) ≡ Some (Some a)
 unfolding object_with all_keys
-action_back (action.Protocol p) e range is_one keys =
-    let inner : action_under key.Protocol (inner_object (action.Protocol p)) ≡ Some (action.Protocol p) = ap (option_map action.Protocol) (protocol_shown p _ range (protocol_object_shows p)) in
-    ap (λ o. option_map Some (option_and_then plain o)) inner ∙ ap (option_map Some) (if_plain (action.Protocol p) is_one)
-action_back (action.Metadata m) e range is_one keys =
-    let inner : action_under key.Metadata (inner_object (action.Metadata m)) ≡ Some (action.Metadata m) = ap (option_map action.Metadata) (metadata_shown m _ range keys.0 keys.1 (metadata_object_shows m)) in
-    ap (λ o. option_map Some (option_and_then plain o)) inner ∙ ap (option_map Some) (if_plain (action.Metadata m) is_one)
-action_back (action.Add f) e range is_one keys =
-    let inner : action_under key.Add (inner_object (action.Add f)) ≡ Some (action.Add f) =
-    ap (option_map action.Add) (add_shown f _ range keys.0 keys.1 (negated _ is_one) (add_object_shows f) (add_object_no_vector f)) in
-    ap (λ o. option_map Some (option_and_then plain o)) inner ∙ ap (option_map Some) (if_plain (action.Add f) is_one)
-action_back (action.Remove r) e range is_one keys =
-    let inner : action_under key.Remove (inner_object (action.Remove r)) ≡ Some (action.Remove r) = ap (option_map action.Remove) (remove_shown r _ range (remove_object_shows r)) in
-    ap (option_map Some) (ap (option_and_then plain) inner)
-action_back (action.Info i) e range is_one keys = cc
+action_back (action.Protocol p) e range bare keys = ap (λ o. option_map Some (option_map action.Protocol o)) (protocol_shown p _ range (protocol_object_shows p))
+action_back (action.Metadata m) e range bare keys = ap (λ o. option_map Some (option_map action.Metadata o)) (metadata_shown m _ range keys.0 keys.1 (metadata_object_shows m))
+action_back (action.Add f) e range bare keys = ap (λ o. option_map Some (option_map action.Add o)) (add_shown f _ range keys.0 keys.1 bare (add_object_shows f) (add_object_no_vector f))
+action_back (action.Remove r) e range bare keys = ap (λ o. option_map Some (option_map action.Remove o)) (remove_shown r _ range (remove_object_shows r))
+action_back (action.Txn t) e range bare keys = ap (λ o. option_map Some (option_map action.Txn o)) (txn_shown t _ range (txn_object_shows t))
+action_back (action.Domain d) e range bare keys = ap (λ o. option_map Some (option_map action.Domain o)) (domain_shown d _ (domain_object_shows d))
+action_back (action.Info i) e range bare keys = cc
+action_back action.Cdc e range bare keys = cc
+action_back (action.CheckpointMeta m) e range bare keys = ap (λ o. option_map Some (option_map action.CheckpointMeta o)) (checkpoint_meta_shown m _ range (checkpoint_meta_object_shows m))
+action_back (action.Sidecar r) e range bare keys = ap (λ o. option_map Some (option_map action.Sidecar o)) (sidecar_shown r _ range (sidecar_object_shows r))
 
 own_info_read : (txn_id : List ℕ) (timestamp : ℤ) → info_of (object_with (own_info_fields txn_id timestamp)) ≡ record { in_commit_timestamp = None; txn_id = Some txn_id }
 unfolding info_of own_info_fields

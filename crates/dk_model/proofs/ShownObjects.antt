@@ -9,7 +9,11 @@ use Rattle.dk_model.specs.declared.action.Protocol.{Protocol}
 use Rattle.dk_model.specs.declared.action.Metadata.{Metadata}
 use Rattle.dk_model.specs.declared.action.AddFile.{AddFile}
 use Rattle.dk_model.specs.declared.action.RemoveFile.{RemoveFile}
+use Rattle.dk_model.specs.declared.action.Txn.{Txn}
+use Rattle.dk_model.specs.declared.action.Domain.{Domain}
 use Rattle.dk_model.specs.declared.action.CommitInfo.{CommitInfo}
+use Rattle.dk_model.specs.declared.action.CheckpointMeta.{CheckpointMeta}
+use Rattle.dk_model.specs.declared.action.SidecarRef.{SidecarRef}
 use Rattle.dk_model.specs.declared.action.Action.{Action}
 use Rattle.dk_model.specs.declared.action.Action.TheVariants as action
 use Rattle.dk_model.specs.Shown.{Field, text_or_null_data, with_pairs, pairs_data, names_data, whole_data, text_data, with_field, with_fields, object_with}
@@ -17,9 +21,12 @@ use Rattle.dk_model.specs.ProtocolObject.{protocol_fields}
 use Rattle.dk_model.specs.MetadataObject.{format_fields, metadata_fields}
 use Rattle.dk_model.specs.AddObject.{add_fields}
 use Rattle.dk_model.specs.RemoveObject.{remove_fields}
+use Rattle.dk_model.specs.TxnObject.{txn_fields}
+use Rattle.dk_model.specs.DomainObject.{domain_fields}
+use Rattle.dk_model.specs.CheckpointObjects.{checkpoint_meta_fields, sidecar_fields}
 use Rattle.dk_model.specs.InfoObject.{info_fields, own_info_fields, own_info_object}
 use Rattle.dk_model.specs.ActionObject.{inner_object, object_of}
-use Rattle.dk_model.specs.Ranges.{IsWhole, IsProtocolInRange, IsMetadataInRange, IsAddInRange, IsRemoveInRange, IsInfoInRange, IsInRange}
+use Rattle.dk_model.specs.Ranges.{IsWhole, IsProtocolInRange, IsMetadataInRange, IsAddInRange, IsRemoveInRange, IsTxnInRange, IsInfoInRange, IsCheckpointMetaInRange, IsSidecarInRange, IsInRange}
 use Rattle.dk_model.proofs.JsonText.{IsTidy, AreTidy, AreTidyItems, tidy_put}
 
 pub record IsShown (n : ℕ) (d : Data) : Type 0 where
@@ -76,6 +83,9 @@ shown_flag b = record { tidy = tt; shallow = omega arith }
 
 shown_version : (n : ℕ) → n < 2 ^ 31 → IsShown 1 (number (unsigned n))
 shown_version n h = record { tidy = omega (arith, h); shallow = omega arith }
+
+shown_count : (n : ℕ) → n < 2 ^ 63 → IsShown 1 (number (unsigned n))
+shown_count n h = record { tidy = omega (arith, h); shallow = omega arith }
 
 shown_whole : (z : ℤ) → IsWhole z → IsShown 1 (whole_data z)
 shown_whole (pos n) h = record { tidy = omega (arith, h); shallow = omega arith }
@@ -160,6 +170,22 @@ shown_remove : (r : RemoveFile) → IsRemoveInRange r → IsShown 2 (object_with
 unfolding remove_fields
 shown_remove r h = shown_object 1 _ (shown_flag _, (shown_whole r.deletion_timestamp h.time, (shown_text _, tt)))
 
+shown_txn : (t : Txn) → IsTxnInRange t → IsShown 2 (object_with (txn_fields t))
+unfolding txn_fields
+shown_txn t h = shown_object 1 _ (shown_text _, (shown_if 1 whole_data IsWhole t.last_updated h.updated shown_whole, (shown_whole t.version h.version, tt)))
+
+shown_domain : (d : Domain) → IsShown 2 (object_with (domain_fields d))
+unfolding domain_fields
+shown_domain d = shown_object 1 _ (shown_text _, (shown_text _, (shown_flag _, tt)))
+
+shown_checkpoint_meta : (m : CheckpointMeta) → IsCheckpointMetaInRange m → IsShown 2 (object_with (checkpoint_meta_fields m))
+unfolding checkpoint_meta_fields
+shown_checkpoint_meta m h = shown_object 1 _ (shown_count _ h.version, tt)
+
+shown_sidecar : (r : SidecarRef) → IsSidecarInRange r → IsShown 2 (object_with (sidecar_fields r))
+unfolding sidecar_fields
+shown_sidecar r h = shown_object 1 _ (shown_whole r.stamp h.stamp, (shown_text _, (shown_whole r.size h.size, tt)))
+
 shown_info : (i : CommitInfo) → IsInfoInRange i → IsShown 2 (object_with (info_fields i))
 unfolding info_fields
 shown_info i r = shown_object 1 _ (shown_if 1 whole_data IsWhole i.in_commit_timestamp r.timestamp shown_whole, (shown_any 1 text_data i.txn_id shown_text, tt))
@@ -169,7 +195,12 @@ shown_inner (action.Protocol p) r = deeper 2 3 _ (omega arith) (shown_protocol p
 shown_inner (action.Metadata m) r = shown_metadata m r
 shown_inner (action.Add f) r = deeper 2 3 _ (omega arith) (shown_add f r)
 shown_inner (action.Remove f) r = deeper 2 3 _ (omega arith) (shown_remove f r)
+shown_inner (action.Txn t) r = deeper 2 3 _ (omega arith) (shown_txn t r)
+shown_inner (action.Domain d) r = deeper 2 3 _ (omega arith) (shown_domain d)
 shown_inner (action.Info i) r = deeper 2 3 _ (omega arith) (shown_info i r)
+shown_inner action.Cdc r = shown_object 2 [] tt
+shown_inner (action.CheckpointMeta m) r = deeper 2 3 _ (omega arith) (shown_checkpoint_meta m r)
+shown_inner (action.Sidecar s) r = deeper 2 3 _ (omega arith) (shown_sidecar s r)
 
 pub shown_action : (a : Action) → IsInRange a → IsShown 4 (object_of a)
 shown_action a r = shown_object 3 _ (shown_inner a r, tt)

@@ -5,16 +5,17 @@ use Rattle.std.proofs.lemmas.Slice.Eq.{bytes_eq-Decides}
 use Rattle.std.specs.FinMap.{get}
 use Rattle.std.specs.FinMap as map
 use Rattle.std.specs.Cmp.Lexicographic.{slice_cmp}
-use Rattle.dk_model.specs.State.{step, empty_state}
-use Rattle.dk_model.specs.Changes.{Change, live, gone, is_same_text, change_at}
-use Rattle.dk_model.specs.Ranges.{IsWhole, IsProtocolInRange, IsMetadataInRange, IsAddInRange, IsInRange}
+use Rattle.dk_model.specs.State.{application_of, step, empty_state}
+use Rattle.dk_model.specs.Changes.{Change, live, gone, or_else, is_same_text, change_at, application_at}
+use Rattle.dk_model.specs.Ranges.{IsWhole, IsProtocolInRange, IsMetadataInRange, IsAddInRange, IsApplicationInRange, IsInRange}
 use Rattle.dk_model.specs.WellKept.{IsWellKept, StaysWellKept}
 use Rattle.dk_model.specs.declared.action.Action.{Action}
 use Rattle.dk_model.specs.declared.action.AddFile.{AddFile}
 use Rattle.dk_model.specs.declared.action.Action.TheVariants as action
 use Rattle.dk_model.specs.declared.state.TableState.{TableState}
+use Rattle.dk_model.specs.declared.state.Application.{Application}
 use Rattle.dk_model.proofs.TextMaps.{get_text}
-use Rattle.dk_model.proofs.Changes.{file_given, tombstone_given, get-files-step, get-tombstones-step}
+use Rattle.dk_model.proofs.Changes.{file_given, tombstone_given, domain-step, get-files-step, get-tombstones-step, get-applications-step}
 
 -- a fact of what a path has, before and after its change
 file_after : (P : AddFile → Type 0) (c : Option Change) (old : Option AddFile) → IfSome old P → ((f : AddFile) → c ≡ Some (live f) → P f) → IfSome (file_given c old) P
@@ -61,32 +62,75 @@ made_live (action.Add f) q g r e =
     let ranges : IsAddInRange kept = record { size = r.size; time = r.time; row = r.row; version = r.version } in
     (sym (ap (λ x. x.path) when.1) ∙ sym (same_path q f.path when.0), sym (ap (λ x. x.data_change) when.1), subst IsAddInRange when.1 ranges)
 made_live (action.Remove f) q g r e = absurd (never_live (is_same_text q f.path) f.deletion_timestamp g e)
+made_live (action.Txn x) q g r e = cc
+made_live (action.Domain d) q g r e = cc
 made_live (action.Info i) q g r e = cc
+made_live action.Cdc q g r e = cc
+made_live (action.CheckpointMeta m) q g r e = cc
+made_live (action.Sidecar s) q g r e = cc
 
 made_gone : (a : Action) (q : List ℕ) (t : ℤ) → IsInRange a → change_at q a ≡ Some (gone t) → IsWhole t
 made_gone (action.Protocol p) q t r e = cc
 made_gone (action.Metadata m) q t r e = cc
 made_gone (action.Add f) q t r e = absurd (never_gone (is_same_text q f.path) (record f { data_change = false }) t e)
 made_gone (action.Remove f) q t r e = subst IsWhole (gone_when (is_same_text q f.path) f.deletion_timestamp t e).1 r.time
+made_gone (action.Txn x) q t r e = cc
+made_gone (action.Domain d) q t r e = cc
 made_gone (action.Info i) q t r e = cc
+made_gone action.Cdc q t r e = cc
+made_gone (action.CheckpointMeta m) q t r e = cc
+made_gone (action.Sidecar s) q t r e = cc
 
 protocol_after : (s : TableState) (a : Action) → IsWellKept s → IsInRange a → IfSome (step s a).protocol IsProtocolInRange
 protocol_after s (action.Protocol p) k r = r
 protocol_after s (action.Metadata m) k r = k.protocol
 protocol_after s (action.Add f) k r = k.protocol
 protocol_after s (action.Remove f) k r = k.protocol
+protocol_after s (action.Txn t) k r = k.protocol
+protocol_after s (action.Domain d) k r = subst (λ t. IfSome t.protocol IsProtocolInRange) (sym (domain-step s d)) k.protocol
 protocol_after s (action.Info i) k r = k.protocol
+protocol_after s action.Cdc k r = k.protocol
+protocol_after s (action.CheckpointMeta m) k r = k.protocol
+protocol_after s (action.Sidecar x) k r = k.protocol
 
 metadata_after : (s : TableState) (a : Action) → IsWellKept s → IsInRange a → IfSome (step s a).metadata IsMetadataInRange
 metadata_after s (action.Protocol p) k r = k.metadata
 metadata_after s (action.Metadata m) k r = r
 metadata_after s (action.Add f) k r = k.metadata
 metadata_after s (action.Remove f) k r = k.metadata
+metadata_after s (action.Txn t) k r = k.metadata
+metadata_after s (action.Domain d) k r = subst (λ t. IfSome t.metadata IsMetadataInRange) (sym (domain-step s d)) k.metadata
 metadata_after s (action.Info i) k r = k.metadata
+metadata_after s action.Cdc k r = k.metadata
+metadata_after s (action.CheckpointMeta m) k r = k.metadata
+metadata_after s (action.Sidecar x) k r = k.metadata
 
 -- a fact of each file holds after a step where it holds before and of what the step makes live
 files_after : (P : AddFile → Type 0) (s : TableState) (a : Action) (q : List ℕ) → IfSome (get s.files q) P → ((f : AddFile) → change_at q a ≡ Some (live f) → P f) → IfSome (get (step s a).files q) P
 files_after P s a q before made = subst (λ o. IfSome o P) (sym (get-files-step s a q)) (file_after P (change_at q a) (get s.files q) before made)
+
+application_after : (P : Application → Type 0) (given old : Option Application) → IfSome old P → ((a : Application) → given ≡ Some a → P a) → IfSome (or_else given old) P
+application_after P None old h new = h
+application_after P (Some a) old h new = new a refl
+
+recorded_when : (b : Bool) (x y : Application) → cond b (Some x) None ≡ Some y → x ≡ y
+recorded_when true x y e = cc
+recorded_when false x y e = cc
+
+-- what is recorded of an application is in its ranges
+recorded : (a : Action) (q : List ℕ) (x : Application) → IsInRange a → application_at q a ≡ Some x → IsApplicationInRange x
+recorded (action.Protocol p) q x r e = cc
+recorded (action.Metadata m) q x r e = cc
+recorded (action.Add f) q x r e = cc
+recorded (action.Remove f) q x r e = cc
+recorded (action.Txn t) q x r e =
+    let ranges : IsApplicationInRange (application_of t) = record { version = r.version; updated = r.updated } in
+    subst IsApplicationInRange (recorded_when (is_same_text q t.app_id) (application_of t) x e) ranges
+recorded (action.Domain d) q x r e = cc
+recorded (action.Info i) q x r e = cc
+recorded action.Cdc q x r e = cc
+recorded (action.CheckpointMeta m) q x r e = cc
+recorded (action.Sidecar s) q x r e = cc
 
 pub step_keeps : (s : TableState) (a : Action) → IsWellKept s → IsInRange a → IsWellKept (step s a)
 step_keeps s a k r = record {
@@ -99,6 +143,8 @@ step_keeps s a k r = record {
   metadata = metadata_after s a k r;
   files = λ q. files_after IsAddInRange s a q (k.files q) (λ f e. (made_live a q f r e).2);
   tombstones = λ q. subst (λ o. IfSome o IsWhole) (sym (get-tombstones-step s a q)) (tombstone_after IsWhole (change_at q a) (get s.tombstones q) (k.tombstones q) (λ t e. made_gone a q t r e));
+  applications = λ q. subst (λ o. IfSome o IsApplicationInRange) (sym (get-applications-step s a q))
+      (application_after IsApplicationInRange (application_at q a) (get s.applications q) (k.applications q) (λ x e. recorded a q x r e));
 }
 
 nothing_at : {X : Type 0} (P : X → Type 0) (q : List ℕ) → IfSome (map.get (map.empty {X = X} {R = slice_cmp nat_cmp}) q) P
@@ -113,6 +159,7 @@ empty_is_kept = record {
   metadata = tt;
   files = λ q. nothing_at IsAddInRange q;
   tombstones = λ q. nothing_at IsWhole q;
+  applications = λ q. nothing_at IsApplicationInRange q;
 }
 
 pub stays_well_kept : StaysWellKept
