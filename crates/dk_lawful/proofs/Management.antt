@@ -9,7 +9,7 @@ use Rattle.dk_model.specs.declared.action.Protocol.{Protocol}
 use Rattle.dk_model.specs.declared.state.TableState.{TableState}
 use Rattle.dk_model.specs.State.{step, steps}
 use Rattle.dk_lawful.specs.Managed.{asks_for_catalogue, lists_catalog_managed}
-use Rattle.dk_lawful.specs.Rules.{protocol_in, is_written, has_first_form, keeps_heads, keeps_info, keeps_paths_apart, keeps_protocol, keeps_writer, IsValidNext}
+use Rattle.dk_lawful.specs.Rules.{protocol_in, is_written, has_first_form, keeps_heads, keeps_kinds, keeps_paths_apart, keeps_protocol, keeps_writer, IsValidNext}
 use Rattle.dk_lawful.specs.Laws.{ManagementStays}
 
 -- the tests in a row that no rule broken passes
@@ -25,7 +25,7 @@ pub record Kept (before : TableState) (version : ℕ) (actions : List Action) : 
 pub kept : (before : TableState) (version : ℕ) (actions : List Action) → IsValidNext before version actions → Kept before version actions
 kept before version actions valid =
     let one = passed (keeps_heads version actions) 1 _ valid in
-    let two = passed (keeps_info actions) 2 _ one.1 in
+    let two = passed (keeps_kinds actions) 2 _ one.1 in
     let three = passed (keeps_paths_apart actions) 3 _ two.1 in
     let five = passed (keeps_protocol before actions) 5 _ three.1 in
     let six = passed (keeps_writer before actions) 6 _ five.1 in

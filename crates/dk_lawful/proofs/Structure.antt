@@ -24,6 +24,8 @@ agrees_beyond state whole horizon greater up agree = record {
   protocol = agree.protocol;
   metadata = agree.metadata;
   files = agree.files;
+  applications = agree.applications;
+  domains = agree.domains;
   none_more = agree.none_more;
   unexpired = λ path time is above. agree.unexpired path time is (omega (arith, ints));
 }

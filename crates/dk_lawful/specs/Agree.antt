@@ -10,6 +10,8 @@ pub record Agree (state whole : TableState) (horizon : ℤ) : Type 0 where
   pub protocol : state.protocol ≡ whole.protocol
   pub metadata : state.metadata ≡ whole.metadata
   pub files : state.files ≡ whole.files
+  pub applications : state.applications ≡ whole.applications
+  pub domains : state.domains ≡ whole.domains
   pub none_more : (path : List ℕ) (time : ℤ) → get state.tombstones path ≡ Some time → get whole.tombstones path ≡ Some time
   pub unexpired : (path : List ℕ) (time : ℤ) → get whole.tombstones path ≡ Some time → horizon <ℤ time → get state.tombstones path ≡ Some time
 

@@ -33,13 +33,19 @@ is_count_allowed (suc version) count = nat_le count 1
 abbrev pub keeps_heads : ℕ → List Action → Bool
 keeps_heads version actions = is_count_allowed version (length (filter_map protocol_in actions)) && is_count_allowed version (length (filter_map metadata_in actions))
 
--- rule 2: at most one commitInfo
+-- rule 2: at most one commitInfo, and none of cdc, checkpointMetadata and sidecar
 abbrev pub info_in : Action → Option CommitInfo
 info_in (action.Info i) = Some i
 info_in _ = None
 
-abbrev pub keeps_info : List Action → Bool
-keeps_info actions = nat_le (length (filter_map info_in actions)) 1
+abbrev pub may_be_committed : Action → Bool
+may_be_committed action.Cdc = false
+may_be_committed (action.CheckpointMeta m) = false
+may_be_committed (action.Sidecar r) = false
+may_be_committed _ = true
+
+abbrev pub keeps_kinds : List Action → Bool
+keeps_kinds actions = nat_le (length (filter_map info_in actions)) 1 && list_all may_be_committed actions
 
 -- rule 3: no path stands in two file actions
 abbrev pub is_each_once : List (List ℕ) → Bool
@@ -82,7 +88,7 @@ keeps_adds actions = list_all is_plain_add actions
 abbrev pub first_broken : TableState → ℕ → List Action → Option ℕ
 first_broken before version actions =
     if not (keeps_heads version actions) then Some 1
-    else if not (keeps_info actions) then Some 2
+    else if not (keeps_kinds actions) then Some 2
     else if not (keeps_paths_apart actions) then Some 3
     else if not (keeps_protocol before actions) then Some 5
     else if not (keeps_writer before actions) then Some 6

@@ -15,7 +15,7 @@ use Rattle.dk_model.specs.declared.action.Action.TheVariants as action
 use Rattle.dk_model.specs.declared.state.TableState.{TableState}
 use Rattle.dk_model.specs.declared.state.Application.{Application}
 use Rattle.dk_model.proofs.TextMaps.{get_text}
-use Rattle.dk_model.proofs.Changes.{file_given, tombstone_given, domain-step, get-files-step, get-tombstones-step, get-applications-step}
+use Rattle.dk_model.proofs.Changes.{file_given, tombstone_given, get-files-step, get-tombstones-step, get-applications-step}
 
 -- a fact of what a path has, before and after its change
 file_after : (P : AddFile → Type 0) (c : Option Change) (old : Option AddFile) → IfSome old P → ((f : AddFile) → c ≡ Some (live f) → P f) → IfSome (file_given c old) P
@@ -87,7 +87,7 @@ protocol_after s (action.Metadata m) k r = k.protocol
 protocol_after s (action.Add f) k r = k.protocol
 protocol_after s (action.Remove f) k r = k.protocol
 protocol_after s (action.Txn t) k r = k.protocol
-protocol_after s (action.Domain d) k r = subst (λ t. IfSome t.protocol IsProtocolInRange) (sym (domain-step s d)) k.protocol
+protocol_after s (action.Domain d) k r = k.protocol
 protocol_after s (action.Info i) k r = k.protocol
 protocol_after s action.Cdc k r = k.protocol
 protocol_after s (action.CheckpointMeta m) k r = k.protocol
@@ -99,7 +99,7 @@ metadata_after s (action.Metadata m) k r = r
 metadata_after s (action.Add f) k r = k.metadata
 metadata_after s (action.Remove f) k r = k.metadata
 metadata_after s (action.Txn t) k r = k.metadata
-metadata_after s (action.Domain d) k r = subst (λ t. IfSome t.metadata IsMetadataInRange) (sym (domain-step s d)) k.metadata
+metadata_after s (action.Domain d) k r = k.metadata
 metadata_after s (action.Info i) k r = k.metadata
 metadata_after s action.Cdc k r = k.metadata
 metadata_after s (action.CheckpointMeta m) k r = k.metadata
