@@ -10,12 +10,8 @@ pub refused_by_part : {X Y : Type 0} (whole : Result X Refusal → Result Y Refu
     → (refusal : Refusal) (part : Result X Refusal) → Refuses refusal part → Refuses refusal (whole part)
 refused_by_part whole hands refusals.Store part means = tt
 refused_by_part whole hands refusals.OutOfMemory part means = tt
-refused_by_part whole hands (refusals.Missing path) part means = ap whole means ∙ hands _
-refused_by_part whole hands (refusals.Unsupported name) part means = ap whole means ∙ hands _
-refused_by_part whole hands (refusals.Damaged path place) part means = ap whole means ∙ hands _
-refused_by_part whole hands (refusals.Limit which value) part means = ap whole means ∙ hands _
-refused_by_part whole hands (refusals.Invalid rule) part means = ap whole means ∙ hands _
 refused_by_part whole hands (refusals.Taken path) part means = absurd means
+refused_by_part whole hands refusal part means = ap whole means ∙ hands _
 
 -- what gives one meaning gives an equal one
 pub gives_same : {X Y : Type 0} (view : X → Y) (result : Result X Refusal) (one other : Result Y Refusal) → one ≡ other → Gives view result one → Gives view result other

@@ -14,12 +14,8 @@ refusal_of errors.OutOfMemory = refusals.OutOfMemory
 abbrev pub Refuses : {Y : Type 0} → Refusal → Result Y Refusal → Type 0
 Refuses refusals.Store meant = Unit {0}
 Refuses refusals.OutOfMemory meant = Unit {0}
-Refuses (refusals.Missing path) meant = meant ≡ Err (refusals.Missing path)
-Refuses (refusals.Unsupported name) meant = meant ≡ Err (refusals.Unsupported name)
-Refuses (refusals.Damaged path place) meant = meant ≡ Err (refusals.Damaged path place)
-Refuses (refusals.Limit which value) meant = meant ≡ Err (refusals.Limit which value)
-Refuses (refusals.Invalid rule) meant = meant ≡ Err (refusals.Invalid rule)
 Refuses (refusals.Taken path) meant = ⊥
+Refuses refusal meant = meant ≡ Err refusal
 
 -- what a call answered, seen by `view`, is what is meant
 abbrev pub Gives : {X Y : Type 0} → (X → Y) → Result X Refusal → Result Y Refusal → Type 0

@@ -22,6 +22,12 @@ pub enum Which {
     InputLines,
     /// The version of a commit: none comes after 9,223,372,036,854,775,807.
     Version,
+    /// The bytes of an object that is read or written.
+    Object,
+    /// The weight of the rows of a Parquet object that is written.
+    Rows,
+    /// The in-commit timestamp of a commit: none comes after 9,223,372,036,854,775,807.
+    Time,
 }
 
 impl Limits {

@@ -3,7 +3,7 @@ ghost use Rattle.std.specs.Prelude.{◌≡◌};
 ghost use Rattle.dk_engine.specs.declared.refusal.Refusal.TheVariants.{OutOfMemory};
 
 use crate::limits::Which;
-use dk_model::Text;
+use dk_model::{Kind, Text};
 use dk_store::StoreError;
 use std::alloc::{AllocError, AllocFailed};
 
@@ -14,7 +14,8 @@ pub enum Refusal {
     Store,
     /// The object of this path, which the answer needs, is absent.
     Missing { path: Text },
-    /// The table asks for this, which isn't there: a feature by its name, or a version as `minWriterVersion n`.
+    /// The table asks for this, which isn't there: a feature by its name, a version as `minReaderVersion n` or
+    /// `minWriterVersion n`, or a setting's text that is no interval, by its key.
     Unsupported { name: Text },
     /// The object of this path means nothing: `place` is its first bad line, from 1, or 0 for the object as a whole.
     Damaged { path: Text, place: u64 },
@@ -24,8 +25,25 @@ pub enum Refusal {
     OutOfMemory,
     /// The commit breaks the rules of commits: `rule` is the number of the first that is broken.
     Invalid { rule: u8 },
+    /// The asked version is above the latest one.
+    NoVersion { latest: u64 },
     /// What was to be made at this path was there already: the store's count of clashes rose.
     Taken { path: Text },
+    /// The commit of this path, which came after the transaction's snapshot, is in the store no more.
+    WinnersGone { path: Text },
+    /// The commit of this version came in between and is in the way.
+    Conflict { version: u64, kind: Kind },
+    /// The moment is before the time of the first version, which `first` is, in milliseconds since
+    /// 1970-01-01T00:00:00Z.
+    TooEarly { first: i64 },
+    /// All that was asked for stands already, up to this version.
+    NothingToDo { version: u64 },
+    /// A part or sidecar that a job has made is in the store no more.
+    Gone { path: Text },
+    /// There is no transaction or job to go on with.
+    NotBegun,
+    /// There are this many spare handlers, and the place asked for isn't among them.
+    NoSpare { count: u64 },
 }
 
 impl From<AllocError> for Refusal {

@@ -21,3 +21,4 @@ pub mod Written
 pub mod ReadBack
 pub mod LineFaults
 pub mod Kinds
+pub mod Settings

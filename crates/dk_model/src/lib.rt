@@ -12,6 +12,7 @@ mod kept;
 mod kind;
 pub mod laws;
 mod pairs;
+mod settings;
 mod state;
 #[cfg(test)]
 mod tests;
