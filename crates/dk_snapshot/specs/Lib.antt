@@ -1,6 +1,7 @@
 pub mod Listed
 pub mod Log
-pub mod Newest
+pub mod Support
+pub mod Opened
 pub mod Plan
 pub mod Versions
 pub mod History

@@ -43,6 +43,6 @@ abbrev pub commits_planned : List Told → Result ℕ Refusal → Result (List (
 commits_planned events (Ok count) = commits_below events count
 commits_planned events (Err refusal) = Err refusal
 
--- the commits that make up the newest version
-abbrev pub commits_of_newest : List Told → Result (List (List Action)) Refusal
-commits_of_newest events = commits_planned events (plan events)
+-- the commits that make up the asked version, or the latest one
+abbrev pub commits_asked : List Told → Option ℕ → Result (List (List Action)) Refusal
+commits_asked events at = commits_planned events (plan events at)

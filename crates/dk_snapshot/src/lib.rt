@@ -1,12 +1,13 @@
-//! What a table is at its newest version, from the commits of its log.
+//! What a table is at a version, from the commits of its log.
 #![tactic(auto)]
 
-mod newest;
+mod open;
 mod reading;
 mod snapshot;
+mod support;
 mod versions;
 
-pub use newest::{open_listed, open_newest};
+pub use open::{open_at, open_listed};
 pub use reading::survey;
 pub use snapshot::Snapshot;
 pub use versions::latest;

@@ -9,4 +9,7 @@ pub struct Snapshot {
     pub version: u64,
     /// The state after all commits up to that version. It has a protocol and metadata.
     pub state: TableState,
+    /// The moment up to which tombstones are expired, in milliseconds since 1970-01-01T00:00:00Z: that of the call, less
+    /// the time that the table keeps removed files.
+    pub cut: i64,
 }

@@ -1,9 +1,9 @@
-//! Which versions a listing of the log names, and which commits make up the newest.
-ghost use Rattle.std.specs.Prelude.{◌≡◌, ◌<◌, ◌≤◌, ◌^◌, ◌-◌, Err, Some, ◌==◌, ℕ, IfOk, IfSome, All, map, List};
+//! Which versions a listing of the log names, and which commits make up one of them.
+ghost use Rattle.std.specs.Prelude.{◌≡◌, ◌<◌, ◌≤◌, ◌^◌, ◌+◌, ◌-◌, Err, Some, None, ◌==◌, ℕ, IfOk, IfSome, All, map, List};
 ghost use Rattle.dk_store.specs.Views.{listed};
 ghost use Rattle.dk_engine.specs.Answers.{Gives};
 ghost use Rattle.dk_paths.specs.Names.{commit_path};
-ghost use Rattle.dk_snapshot.specs.Plan.{first_failing, count_from};
+ghost use Rattle.dk_snapshot.specs.Plan.{first_failing, count_of, count_from};
 ghost use Rattle.dk_snapshot.specs.Versions.{has_version, NamesVersion, NamesVersions, HasVersions, greatest};
 
 use dk_engine::Refusal;
@@ -88,20 +88,35 @@ fn missing(alloc: Global, version: u64) -> Result<Refusal, AllocError>
     })
 }
 
-/// How many commits are to be read of the listed versions, counted from version 0.
-pub(crate) fn plan(alloc: Global, versions: &[u64]) -> Result<u64, Refusal>
+/// How many commits make up a version, counted from version 0.
+fn count_of(alloc: Global, versions: &[u64], version: u64) -> Result<u64, Refusal>
+    requires { version < 2 ^ 63 }
+    ensures means { Gives (λ count. count) result (count_of (has_version versions.now) version) }
+    ensures count { IfOk result (λ count. count ≡ version + 1) }
+    ensures store { result ≡ Err Refusal.Store → ⊥ }
+    ensures taken { (path : List ℕ) → result ≡ Err (Refusal.Taken path) → ⊥ }
+{
+    match first_absent(alloc, versions, version + 1)? {
+        Some(version) => Err(missing(alloc, version)?),
+        None => Ok(version + 1),
+    }
+}
+
+/// How many commits are to be read of the listed versions for the asked version, or for the latest one.
+pub(crate) fn plan(alloc: Global, versions: &[u64], at: Option<u64>) -> Result<u64, Refusal>
     requires { All (λ version. version < 2 ^ 63) versions.now }
-    ensures means { Gives (λ count. count) result (count_from (has_version versions.now) (greatest versions.now)) }
+    ensures means { Gives (λ count. count) result (count_from (has_version versions.now) at (greatest versions.now)) }
     ensures small { IfOk result (λ count. (0 < count) × (count ≤ 2 ^ 63)) }
-    ensures latest { IfOk result (λ count. Some (count - 1) ≡ greatest versions.now) }
+    ensures latest { at ≡ None → IfOk result (λ count. Some (count - 1) ≡ greatest versions.now) }
     ensures store { result ≡ Err Refusal.Store → ⊥ }
     ensures taken { (path : List ℕ) → result ≡ Err (Refusal.Taken path) → ⊥ }
 {
     let Some(latest) = latest(versions) else {
         return Err(missing(alloc, 0)?);
     };
-    match first_absent(alloc, versions, latest + 1)? {
-        Some(version) => Err(missing(alloc, version)?),
-        None => Ok(latest + 1),
+    match at {
+        None => count_of(alloc, versions, latest),
+        Some(version) if version <= latest => count_of(alloc, versions, version),
+        Some(_) => Err(Refusal::NoVersion { latest }),
     }
 }

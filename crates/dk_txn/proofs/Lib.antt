@@ -1,5 +1,4 @@
 pub mod Next
-pub mod PlainRead
 pub mod ReadHistory
 pub mod Readable
 pub mod RuleWalks

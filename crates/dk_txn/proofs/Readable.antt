@@ -1,10 +1,11 @@
 -- The text of a commit that keeps the rules is read back as that commit.
 use Rattle.std.proofs.Common.{◌≡◌, ℕ, ℤ, suc, ◌<◌, ◌≤◌, ◌^◌, Bool, true, false, not, ◌&&◌, List, [], ◌∷◌, ◌++◌, length, Some, None, refl, ap, sym, ◌∙◌, true≢false, arith, filter_map}
-use Rattle.std.specs.Prelude.{Option, ◌==◌, ◌||◌, nat_le, if◌then◌else◌}
+use Rattle.std.specs.Prelude.{Option, ◌==◌, ◌||◌, nat_le, int_le, pos, if◌then◌else◌}
 use Rattle.std.specs.List.{AllByRecursion, list_all}
 use Rattle.std.specs.Str.{IsUtf8}
 use Rattle.std.proofs.lemmas.Bool.{and_parts, eqb-true, leb-true}
 use Rattle.dk_model.specs.declared.action.Protocol.{Protocol}
+use Rattle.dk_model.specs.declared.action.AddFile.{AddFile}
 use Rattle.dk_model.specs.declared.action.Action.{Action}
 use Rattle.dk_model.specs.declared.action.Action.TheVariants as action
 use Rattle.dk_model.specs.declared.state.TableState.{TableState}
@@ -13,8 +14,7 @@ use Rattle.dk_model.specs.Ranges.{IsWhole, IsProtocolInRange}
 use Rattle.dk_model.specs.ReadBack.{IsSound, IsReadable, own_info, written_of}
 use Rattle.dk_model.specs.Written.{own_info_line, text_of}
 use Rattle.dk_model.proofs.LinesBack.{own_reads_back, writable}
-use Rattle.dk_lawful.specs.Rules.{protocol_in, info_in, has_first_form, is_not_lower, keeps_heads, keeps_info, keeps_paths_apart, keeps_protocol, IsValidNext}
-use Rattle.dk_txn.specs.Commits.{ArePlain}
+use Rattle.dk_lawful.specs.Rules.{protocol_in, info_in, may_be_committed, has_first_form, is_not_lower, is_plain_add, keeps_heads, keeps_kinds, keeps_paths_apart, keeps_protocol, keeps_writer, keeps_adds, IsValidNext}
 
 -- the tests in a row that no rule broken passes
 passed : (kept : Bool) (rule : ℕ) (rest : Option ℕ) → (if not kept then Some rule else rest) ≡ None → (kept ≡ true) × (rest ≡ None)
@@ -37,38 +37,62 @@ form_in_range before p form =
     let most : p.min_writer ≤ 6 = leb-true p.min_writer 6 ((and_parts (nat_le 1 p.min_writer) (nat_le p.min_writer 6) one.1).1) in
     record { reader = one_or_two p.min_reader one.0; writer = omega arith }
 
-readable : (before : Option Protocol) (actions : List Action) → list_all (has_first_form before) (filter_map protocol_in actions) ≡ true → ArePlain actions → AllByRecursion IsReadable actions
-readable before [] forms plain = tt
-readable before (action.Protocol p ∷ actions) forms plain =
+bare : (f : AddFile) → is_plain_add (action.Add f) ≡ true → f.vector ≡ false
+bare f keeps = negated f.vector ((and_parts (int_le (pos 0) f.size) (not f.vector) keeps).1)
+  where
+    negated : (b : Bool) → not b ≡ true → b ≡ false
+    negated true e = absurd (true≢false (sym e))
+    negated false e = refl
+
+-- what is committed is read: its protocol has the first form, and no vector stands beside its files
+readable : (before : Option Protocol) (actions : List Action) → list_all (has_first_form before) (filter_map protocol_in actions) ≡ true → list_all may_be_committed actions ≡ true → keeps_adds actions ≡ true
+    → AllByRecursion IsReadable actions
+readable before [] forms kinds adds = tt
+readable before (action.Protocol p ∷ actions) forms kinds adds =
     let both = and_parts (has_first_form before p) _ forms in
-    (record { versions = form_in_range before p both.0; plain = plain.0 }, readable before actions both.1 plain.1)
-readable before (action.Metadata m ∷ actions) forms plain = (record { versions = tt; plain = plain.0 }, readable before actions forms plain.1)
-readable before (action.Add f ∷ actions) forms plain = (record { versions = tt; plain = plain.0 }, readable before actions forms plain.1)
-readable before (action.Remove r ∷ actions) forms plain = (record { versions = tt; plain = plain.0 }, readable before actions forms plain.1)
-readable before (action.Info i ∷ actions) forms plain = (record { versions = tt; plain = plain.0 }, readable before actions forms plain.1)
+    (record { versions = form_in_range before p both.0; no_vector = refl }, readable before actions both.1 kinds adds)
+readable before (action.Metadata m ∷ actions) forms kinds adds = (record { versions = tt; no_vector = refl }, readable before actions forms kinds adds)
+readable before (action.Add f ∷ actions) forms kinds adds =
+    let both = and_parts (is_plain_add (action.Add f)) _ adds in
+    (record { versions = tt; no_vector = bare f both.0 }, readable before actions forms kinds both.1)
+readable before (action.Remove r ∷ actions) forms kinds adds = (record { versions = tt; no_vector = refl }, readable before actions forms kinds adds)
+readable before (action.Txn t ∷ actions) forms kinds adds = (record { versions = tt; no_vector = refl }, readable before actions forms kinds adds)
+readable before (action.Domain d ∷ actions) forms kinds adds = (record { versions = tt; no_vector = refl }, readable before actions forms kinds adds)
+readable before (action.Info i ∷ actions) forms kinds adds = (record { versions = tt; no_vector = refl }, readable before actions forms kinds adds)
+readable before (action.Cdc ∷ actions) forms kinds adds = absurd (true≢false (sym kinds))
+readable before (action.CheckpointMeta m ∷ actions) forms kinds adds = absurd (true≢false (sym kinds))
+readable before (action.Sidecar r ∷ actions) forms kinds adds = absurd (true≢false (sym kinds))
 
 -- where nothing is said of another commit, each action has a line
-all_written : (actions : List Action) → length (filter_map info_in actions) ≡ 0 → written_of actions ≡ actions
-all_written [] none = refl
-all_written (action.Protocol p ∷ actions) none = ap (λ (rest : List Action). action.Protocol p ∷ rest) (all_written actions none)
-all_written (action.Metadata m ∷ actions) none = ap (λ (rest : List Action). action.Metadata m ∷ rest) (all_written actions none)
-all_written (action.Add f ∷ actions) none = ap (λ (rest : List Action). action.Add f ∷ rest) (all_written actions none)
-all_written (action.Remove r ∷ actions) none = ap (λ (rest : List Action). action.Remove r ∷ rest) (all_written actions none)
-all_written (action.Info i ∷ actions) none = absurd (omega (arith, none))
+all_written : (actions : List Action) → length (filter_map info_in actions) ≡ 0 → list_all may_be_committed actions ≡ true → written_of actions ≡ actions
+all_written [] none kinds = refl
+all_written (action.Protocol p ∷ actions) none kinds = ap (λ (rest : List Action). action.Protocol p ∷ rest) (all_written actions none kinds)
+all_written (action.Metadata m ∷ actions) none kinds = ap (λ (rest : List Action). action.Metadata m ∷ rest) (all_written actions none kinds)
+all_written (action.Add f ∷ actions) none kinds = ap (λ (rest : List Action). action.Add f ∷ rest) (all_written actions none kinds)
+all_written (action.Remove r ∷ actions) none kinds = ap (λ (rest : List Action). action.Remove r ∷ rest) (all_written actions none kinds)
+all_written (action.Txn t ∷ actions) none kinds = ap (λ (rest : List Action). action.Txn t ∷ rest) (all_written actions none kinds)
+all_written (action.Domain d ∷ actions) none kinds = ap (λ (rest : List Action). action.Domain d ∷ rest) (all_written actions none kinds)
+all_written (action.Info i ∷ actions) none kinds = absurd (omega (arith, none))
+all_written (action.Cdc ∷ actions) none kinds = absurd (true≢false (sym kinds))
+all_written (action.CheckpointMeta m ∷ actions) none kinds = absurd (true≢false (sym kinds))
+all_written (action.Sidecar r ∷ actions) none kinds = absurd (true≢false (sym kinds))
 
 pub record ReadsAsItself (actions : List Action) : Type 0 where
   pub each : AllByRecursion IsReadable actions
   pub written : written_of actions ≡ actions
 
 -- a commit that keeps the rules, by the commit's own line and the actions behind it
-pub valid_reads : (txn_id : List ℕ) (before : TableState) (version : ℕ) (actions : List Action) → IsValidNext before version (own_info txn_id ∷ actions) → ArePlain actions → ReadsAsItself actions
-valid_reads txn_id before version actions valid plain =
+pub valid_reads : (txn_id : List ℕ) (before : TableState) (version : ℕ) (actions : List Action) → IsValidNext before version (own_info txn_id ∷ actions) → ReadsAsItself actions
+valid_reads txn_id before version actions valid =
     let one = passed (keeps_heads version (own_info txn_id ∷ actions)) 1 _ valid in
-    let two = passed (keeps_info (own_info txn_id ∷ actions)) 2 _ one.1 in
+    let two = passed (keeps_kinds (own_info txn_id ∷ actions)) 2 _ one.1 in
     let three = passed (keeps_paths_apart (own_info txn_id ∷ actions)) 3 _ two.1 in
     let five = passed (keeps_protocol before (own_info txn_id ∷ actions)) 5 _ three.1 in
-    let few : suc (length (filter_map info_in actions)) ≤ 1 = leb-true (suc (length (filter_map info_in actions))) 1 two.0 in
-    record { each = readable before.protocol actions five.0 plain; written = all_written actions (omega arith) }
+    let six = passed (keeps_writer before (own_info txn_id ∷ actions)) 6 _ five.1 in
+    let eleven = passed (keeps_adds (own_info txn_id ∷ actions)) 11 _ six.1 in
+    let kinds = and_parts (nat_le (suc (length (filter_map info_in actions))) 1) (list_all may_be_committed actions) two.0 in
+    let few : suc (length (filter_map info_in actions)) ≤ 1 = leb-true (suc (length (filter_map info_in actions))) 1 kinds.0 in
+    record { each = readable before.protocol actions five.0 kinds.1 eleven.0; written = all_written actions (omega arith) kinds.1 }
 
 -- a whole text, by its lines
 pub text_reads : (txn_id : List ℕ) (now : ℤ) (actions : List Action) (text : List ℕ) → IsUtf8 txn_id → IsWhole now → AllByRecursion IsSound actions → text ≡ own_info_line txn_id now ++ text_of actions

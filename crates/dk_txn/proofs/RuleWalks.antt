@@ -18,8 +18,8 @@ use Rattle.dk_model.specs.declared.action.Action.TheVariants as action
 use Rattle.dk_model.specs.declared.state.TableState.{TableState}
 use Rattle.dk_model.specs.State.{steps}
 use Rattle.dk_model.specs.ReadBack.{own_info}
-use Rattle.dk_lawful.specs.Rules.{is_count_allowed, is_each_once, is_written, file_path_in, keeps_heads, keeps_info, keeps_paths_apart, keeps_protocol, keeps_writer, keeps_adds, first_broken}
-use Rattle.dk_txn.specs.Walks.{each_new, written_after, has_path}
+use Rattle.dk_lawful.specs.Rules.{is_count_allowed, is_each_once, is_written, info_in, file_path_in, may_be_committed, keeps_heads, keeps_kinds, keeps_paths_apart, keeps_protocol, keeps_writer, keeps_adds, first_broken}
+use Rattle.dk_txn.specs.Walks.{each_new, written_after, has_path, stands_behind_own}
 
 pub first_count : (version count : ℕ) → (version == 0) ≡ true → (count == 1) ≡ is_count_allowed version count
 first_count version count first = subst (λ v. (count == 1) ≡ is_count_allowed v count) (sym (eqb-true version 0 first)) refl
@@ -72,11 +72,39 @@ written_after-steps (action.Protocol p ∷ actions) before = written_after-steps
 written_after-steps (action.Metadata m ∷ actions) before = written_after-steps actions _
 written_after-steps (action.Add f ∷ actions) before = written_after-steps actions _
 written_after-steps (action.Remove r ∷ actions) before = written_after-steps actions _
+written_after-steps (action.Txn t ∷ actions) before = written_after-steps actions _
+written_after-steps (action.Domain d ∷ actions) before = written_after-steps actions _
 written_after-steps (action.Info i ∷ actions) before = written_after-steps actions _
+written_after-steps (action.Cdc ∷ actions) before = written_after-steps actions _
+written_after-steps (action.CheckpointMeta m ∷ actions) before = written_after-steps actions _
+written_after-steps (action.Sidecar r ∷ actions) before = written_after-steps actions _
 
 pub written_is : (before : TableState) (actions : List Action) (place : ℕ) (written : Bool) → length actions ≤ place
     → written_after written (drop place actions) ≡ written_after (is_written before.protocol) actions → written ≡ keeps_writer before actions
 written_is before actions place written past is = sym (ap (written_after written) (drop_of_length-le actions past)) ∙ is ∙ sym (written_after-steps actions before)
+
+-- ---- the kinds of actions
+
+never : (b : Bool) → (b && false) ≡ false
+never true = refl
+never false = refl
+
+-- behind the commit's own line there is no other, and none of the kinds that are never committed
+kinds_split : (actions : List Action) → (nat_le (length (filter_map info_in actions)) 0 && list_all may_be_committed actions) ≡ list_all stands_behind_own actions
+kinds_split [] = refl
+kinds_split (action.Protocol p ∷ actions) = kinds_split actions
+kinds_split (action.Metadata m ∷ actions) = kinds_split actions
+kinds_split (action.Add f ∷ actions) = kinds_split actions
+kinds_split (action.Remove r ∷ actions) = kinds_split actions
+kinds_split (action.Txn t ∷ actions) = kinds_split actions
+kinds_split (action.Domain d ∷ actions) = kinds_split actions
+kinds_split (action.Info i ∷ actions) = refl
+kinds_split (action.Cdc ∷ actions) = never (nat_le (length (filter_map info_in actions)) 0)
+kinds_split (action.CheckpointMeta m ∷ actions) = never (nat_le (length (filter_map info_in actions)) 0)
+kinds_split (action.Sidecar r ∷ actions) = never (nat_le (length (filter_map info_in actions)) 0)
+
+pub kinds_of_own : (txn_id : List ℕ) (actions : List Action) → keeps_kinds (own_info txn_id ∷ actions) ≡ list_all stands_behind_own actions
+kinds_of_own txn_id actions = kinds_split actions
 
 -- ---- paths seen so far
 
@@ -133,24 +161,24 @@ module _ (txn_id : List ℕ) (before : TableState) (version : ℕ) (actions : Li
   pub breaks_1 : keeps_heads version actions ≡ false → FirstIs (Some 1)
   breaks_1 heads = rw heads refl
 
-  pub breaks_2 : keeps_heads version actions ≡ true → keeps_info commit ≡ false → FirstIs (Some 2)
+  pub breaks_2 : keeps_heads version actions ≡ true → keeps_kinds commit ≡ false → FirstIs (Some 2)
   breaks_2 heads info = rw (heads, info) refl
 
-  pub breaks_3 : keeps_heads version actions ≡ true → keeps_info commit ≡ true → keeps_paths_apart actions ≡ false → FirstIs (Some 3)
+  pub breaks_3 : keeps_heads version actions ≡ true → keeps_kinds commit ≡ true → keeps_paths_apart actions ≡ false → FirstIs (Some 3)
   breaks_3 heads info paths = rw (heads, info, paths) refl
 
-  pub breaks_5 : keeps_heads version actions ≡ true → keeps_info commit ≡ true → keeps_paths_apart actions ≡ true → keeps_protocol before actions ≡ false → FirstIs (Some 5)
+  pub breaks_5 : keeps_heads version actions ≡ true → keeps_kinds commit ≡ true → keeps_paths_apart actions ≡ true → keeps_protocol before actions ≡ false → FirstIs (Some 5)
   breaks_5 heads info paths protocol = rw (heads, info, paths, protocol) refl
 
-  pub breaks_6 : keeps_heads version actions ≡ true → keeps_info commit ≡ true → keeps_paths_apart actions ≡ true → keeps_protocol before actions ≡ true
+  pub breaks_6 : keeps_heads version actions ≡ true → keeps_kinds commit ≡ true → keeps_paths_apart actions ≡ true → keeps_protocol before actions ≡ true
       → keeps_writer before actions ≡ false → FirstIs (Some 6)
   breaks_6 heads info paths protocol writer = rw (heads, info, paths, protocol, writer) refl
 
-  pub breaks_11 : keeps_heads version actions ≡ true → keeps_info commit ≡ true → keeps_paths_apart actions ≡ true → keeps_protocol before actions ≡ true
+  pub breaks_11 : keeps_heads version actions ≡ true → keeps_kinds commit ≡ true → keeps_paths_apart actions ≡ true → keeps_protocol before actions ≡ true
       → keeps_writer before actions ≡ true → keeps_adds actions ≡ false → FirstIs (Some 11)
   breaks_11 heads info paths protocol writer adds = rw (heads, info, paths, protocol, writer, adds) refl
 
-  pub breaks_none : keeps_heads version actions ≡ true → keeps_info commit ≡ true → keeps_paths_apart actions ≡ true → keeps_protocol before actions ≡ true
+  pub breaks_none : keeps_heads version actions ≡ true → keeps_kinds commit ≡ true → keeps_paths_apart actions ≡ true → keeps_protocol before actions ≡ true
       → keeps_writer before actions ≡ true → keeps_adds actions ≡ true → FirstIs None
   breaks_none heads info paths protocol writer adds = rw (heads, info, paths, protocol, writer, adds) refl
 

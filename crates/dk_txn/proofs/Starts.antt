@@ -1,5 +1,5 @@
 -- What a commit comes after, by what the survey found, over a store that may tell its events.
-use Rattle.std.proofs.Common.{◌≡◌, ℕ, ◌+◌, ◌<◌, ◌^◌, Bool, true, false, List, refl, ap, ap₂, sym, subst, ◌∙◌, true≢false}
+use Rattle.std.proofs.Common.{◌≡◌, ℕ, ℤ, ◌+◌, ◌<◌, ◌^◌, Bool, true, false, List, refl, ap, ap₂, sym, subst, ◌∙◌, true≢false}
 use Rattle.std.specs.Prelude.{Option, Some, None, Result, Ok, Err, IfSome, All, ◌==◌, if◌then◌else◌}
 use Rattle.dk_store.specs.Told.{Told}
 use Rattle.dk_model.specs.declared.state.TableState.{TableState}
@@ -13,7 +13,7 @@ use Rattle.dk_snapshot.specs.declared.snapshot.Snapshot.{Snapshot}
 use Rattle.dk_snapshot.specs.Plan.{stands}
 use Rattle.dk_snapshot.specs.Versions.{greatest}
 use Rattle.dk_snapshot.specs.Listed.{ListsVersions, Surveys}
-use Rattle.dk_snapshot.specs.Newest.{newest}
+use Rattle.dk_snapshot.specs.Opened.{opened}
 use Rattle.dk_snapshot.proofs.Greatest.{small_of, greatest_below-list}
 use Rattle.dk_txn.specs.declared.start.Start.{Start}
 use Rattle.dk_txn.specs.Attempt.{last_version, after_snapshot, start_after, start}
@@ -22,18 +22,18 @@ abbrev AreSmall : List ℕ → Type 0
 AreSmall versions = All (λ version. version < 2 ^ 63) versions
 
 -- the greatest of the listed versions decides
-starts_as : (events : List Told) (versions : List ℕ) (latest : Option ℕ) → AreSmall versions → ListsVersions events versions → latest ≡ greatest versions → start events ≡ start_after events latest
-starts_as events versions latest small lists is =
-    ap (start_after events) (greatest_below-list versions (stands events) (2 ^ 63) (small_of versions (2 ^ 63) small) lists ∙ sym is)
+starts_as : (events : List Told) (now : ℤ) (versions : List ℕ) (latest : Option ℕ) → AreSmall versions → ListsVersions events versions → latest ≡ greatest versions → start events now ≡ start_after events now latest
+starts_as events now versions latest small lists is =
+    ap (start_after events now) (greatest_below-list versions (stands events) (2 ^ 63) (small_of versions (2 ^ 63) small) lists ∙ sym is)
 
 abbrev from_parts : ℕ → TableState → Result Start Refusal
 from_parts version before = Ok (record { version = version; before = before })
 
-pub start_none : (told : Option (List Told)) (versions : List ℕ) (latest : Option ℕ) (before : TableState) → AreSmall versions → latest ≡ greatest versions → latest ≡ None → before ≡ empty_state
-    → IfSome told (λ events. ListsVersions events versions → start events ≡ Ok (record { version = 0; before = before }))
-start_none None versions latest before small is none empty = tt
-start_none (Some events) versions latest before small is none empty = λ lists.
-    starts_as events versions latest small lists is ∙ ap (start_after events) none ∙ ap (from_parts 0) (sym empty)
+pub start_none : (told : Option (List Told)) (now : ℤ) (versions : List ℕ) (latest : Option ℕ) (before : TableState) → AreSmall versions → latest ≡ greatest versions → latest ≡ None → before ≡ empty_state
+    → IfSome told (λ events. ListsVersions events versions → start events now ≡ Ok (record { version = 0; before = before }))
+start_none None now versions latest before small is none empty = tt
+start_none (Some events) now versions latest before small is none empty = λ lists.
+    starts_as events now versions latest small lists is ∙ ap (start_after events now) none ∙ ap (from_parts 0) (sym empty)
 
 chosen : {X : Type 0} (test : Bool) (one other : X) → test ≡ true → (if test then one else other) ≡ one
 chosen true one other is = refl
@@ -43,55 +43,50 @@ not_chosen : {X : Type 0} (test : Bool) (one other : X) → test ≡ false → (
 not_chosen true one other is = absurd (true≢false is)
 not_chosen false one other is = refl
 
-pub start_last : (told : Option (List Told)) (versions : List ℕ) (latest : Option ℕ) (version : ℕ) → AreSmall versions → latest ≡ greatest versions → latest ≡ Some version → (version == last_version) ≡ true
-    → IfSome told (λ events. ListsVersions events versions → start events ≡ Err (refusals.Limit limits.Version last_version))
-start_last None versions latest version small is some last = tt
-start_last (Some events) versions latest version small is some last = λ lists.
-    starts_as events versions latest small lists is ∙ ap (start_after events) some ∙ chosen (version == last_version) (Err (refusals.Limit limits.Version last_version)) (after_snapshot (newest events)) last
+pub start_last : (told : Option (List Told)) (now : ℤ) (versions : List ℕ) (latest : Option ℕ) (version : ℕ) → AreSmall versions → latest ≡ greatest versions → latest ≡ Some version → (version == last_version) ≡ true
+    → IfSome told (λ events. ListsVersions events versions → start events now ≡ Err (refusals.Limit limits.Version last_version))
+start_last None now versions latest version small is some last = tt
+start_last (Some events) now versions latest version small is some last = λ lists.
+    starts_as events now versions latest small lists is ∙ ap (start_after events now) some ∙ chosen (version == last_version) (Err (refusals.Limit limits.Version last_version)) (after_snapshot (opened events None now)) last
 
-goes_on : (events : List Told) (versions : List ℕ) (latest : Option ℕ) (version : ℕ) → AreSmall versions → ListsVersions events versions → latest ≡ greatest versions → latest ≡ Some version
-    → (version == last_version) ≡ false → start events ≡ after_snapshot (newest events)
-goes_on events versions latest version small lists is some last =
-    starts_as events versions latest small lists is ∙ ap (start_after events) some ∙ not_chosen (version == last_version) (Err (refusals.Limit limits.Version last_version)) (after_snapshot (newest events)) last
+goes_on : (events : List Told) (now : ℤ) (versions : List ℕ) (latest : Option ℕ) (version : ℕ) → AreSmall versions → ListsVersions events versions → latest ≡ greatest versions → latest ≡ Some version
+    → (version == last_version) ≡ false → start events now ≡ after_snapshot (opened events None now)
+goes_on events now versions latest version small lists is some last =
+    starts_as events now versions latest small lists is ∙ ap (start_after events now) some ∙ not_chosen (version == last_version) (Err (refusals.Limit limits.Version last_version)) (after_snapshot (opened events None now)) last
 
-pub start_refused : (told : Option (List Told)) (versions : List ℕ) (latest : Option ℕ) (version : ℕ) (refusal : Refusal) → AreSmall versions → latest ≡ greatest versions → latest ≡ Some version
-    → (version == last_version) ≡ false → IfSome told (λ events. ListsVersions events versions → Refuses refusal (newest events))
-    → IfSome told (λ events. ListsVersions events versions → Refuses refusal (start events))
-start_refused None versions latest version refusal small is some last means = tt
-start_refused (Some events) versions latest version refusal small is some last means = λ lists.
-    subst (λ (meant : Result Start Refusal). Refuses refusal meant) (sym (goes_on events versions latest version small lists is some last))
-    (refused_by_part after_snapshot (λ r. refl) refusal (newest events) (means lists))
+pub start_refused : (told : Option (List Told)) (now : ℤ) (versions : List ℕ) (latest : Option ℕ) (version : ℕ) (refusal : Refusal) → AreSmall versions → latest ≡ greatest versions → latest ≡ Some version
+    → (version == last_version) ≡ false → IfSome told (λ events. ListsVersions events versions → Refuses refusal (opened events None now))
+    → IfSome told (λ events. ListsVersions events versions → Refuses refusal (start events now))
+start_refused None now versions latest version refusal small is some last means = tt
+start_refused (Some events) now versions latest version refusal small is some last means = λ lists.
+    subst (λ (meant : Result Start Refusal). Refuses refusal meant) (sym (goes_on events now versions latest version small lists is some last))
+    (refused_by_part after_snapshot (λ r. refl) refusal (opened events None now) (means lists))
 
-pub start_opened : (told : Option (List Told)) (versions : List ℕ) (latest : Option ℕ) (version : ℕ) (snapshot : Snapshot) (from : Start) → AreSmall versions → latest ≡ greatest versions
+pub start_opened : (told : Option (List Told)) (now : ℤ) (versions : List ℕ) (latest : Option ℕ) (version : ℕ) (snapshot : Snapshot) (from : Start) → AreSmall versions → latest ≡ greatest versions
     → latest ≡ Some version → (version == last_version) ≡ false → from.version ≡ snapshot.version + 1 → from.before ≡ snapshot.state
-    → IfSome told (λ events. ListsVersions events versions → newest events ≡ Ok snapshot)
-    → IfSome told (λ events. ListsVersions events versions → start events ≡ Ok from)
-start_opened None versions latest version snapshot from small is some last next before opens = tt
-start_opened (Some events) versions latest version snapshot from small is some last next before opens = λ lists.
-    goes_on events versions latest version small lists is some last ∙ ap after_snapshot (opens lists)
+    → IfSome told (λ events. ListsVersions events versions → opened events None now ≡ Ok snapshot)
+    → IfSome told (λ events. ListsVersions events versions → start events now ≡ Ok from)
+start_opened None now versions latest version snapshot from small is some last next before opens = tt
+start_opened (Some events) now versions latest version snapshot from small is some last next before opens = λ lists.
+    goes_on events now versions latest version small lists is some last ∙ ap after_snapshot (opens lists)
     ∙ ap₂ from_parts (sym next) (sym before)
 
 -- a survey is refused by the store or by want of memory alone
-refused_survey : (events : List Told) (refusal : Refusal) → Surveys events (Err refusal) → Refuses refusal (start events)
-refused_survey events refusals.Store found = tt
-refused_survey events refusals.OutOfMemory found = tt
-refused_survey events (refusals.Missing path) found = absurd found
-refused_survey events (refusals.Unsupported name) found = absurd found
-refused_survey events (refusals.Damaged path place) found = absurd found
-refused_survey events (refusals.Limit which value) found = absurd found
-refused_survey events (refusals.Invalid rule) found = absurd found
-refused_survey events (refusals.Taken path) found = absurd found
+refused_survey : (events : List Told) (now : ℤ) (refusal : Refusal) → Surveys events (Err refusal) → Refuses refusal (start events now)
+refused_survey events now refusals.Store found = tt
+refused_survey events now refusals.OutOfMemory found = tt
+refused_survey events now refusal found = absurd found
 
-pub survey_refused : (told : Option (List Told)) (refusal : Refusal) → IfSome told (λ events. Surveys events (Err refusal)) → IfSome told (λ events. Gives (λ (from : Start). from) (Err refusal) (start events))
-survey_refused None refusal found = tt
-survey_refused (Some events) refusal found = refused_survey events refusal found
+pub survey_refused : (told : Option (List Told)) (now : ℤ) (refusal : Refusal) → IfSome told (λ events. Surveys events (Err refusal)) → IfSome told (λ events. Gives (λ (from : Start). from) (Err refusal) (start events now))
+survey_refused None now refusal found = tt
+survey_refused (Some events) now refusal found = refused_survey events now refusal found
 
 -- what is begun from the versions that a survey found is what a commit comes after
-pub survey_started : {X : Type 0} (view : X → Start) (told mid : Option (List Told)) (versions lent : List ℕ) (result : Result X Refusal) → lent ≡ versions → mid ≡ told
+pub survey_started : {X : Type 0} (view : X → Start) (told mid : Option (List Told)) (now : ℤ) (versions lent : List ℕ) (result : Result X Refusal) → lent ≡ versions → mid ≡ told
     → IfSome told (λ events. ListsVersions events versions)
-    → IfSome mid (λ events. ListsVersions events lent → Gives view result (start events))
-    → IfSome told (λ events. Gives view result (start events))
-survey_started view None mid versions lent result same still found starts = tt
-survey_started view (Some events) mid versions lent result same still found starts =
-    let here : ListsVersions events lent → Gives view result (start events) = rw still at starts in
+    → IfSome mid (λ events. ListsVersions events lent → Gives view result (start events now))
+    → IfSome told (λ events. Gives view result (start events now))
+survey_started view None mid now versions lent result same still found starts = tt
+survey_started view (Some events) mid now versions lent result same still found starts =
+    let here : ListsVersions events lent → Gives view result (start events now) = rw still at starts in
     here (rw same found)

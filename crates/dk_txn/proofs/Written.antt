@@ -25,7 +25,7 @@ use Rattle.dk_lawful.proofs.Puts.{put_keeps_lawful, put_adds_commit}
 use Rattle.dk_txn.specs.declared.start.Start.{Start}
 use Rattle.dk_txn.specs.declared.commit.Committed.{Committed}
 use Rattle.dk_txn.specs.Attempt.{unsupported, verdict, own_commit, commit_text, Writing, allowed, if_allowed, attempt_from, attempt}
-use Rattle.dk_txn.specs.Commits.{ArePlain, CommitRefuses, Commits, HistoryAfterCommit, SaysHistory, ComesNext}
+use Rattle.dk_txn.specs.Commits.{CommitRefuses, Commits, HistoryAfterCommit, SaysHistory, ComesNext}
 use Rattle.dk_txn.proofs.Readable.{valid_reads}
 use Rattle.dk_txn.proofs.Next.{attempt_next}
 
@@ -44,10 +44,10 @@ no_rule None None u is = refl
 
 pub allowed_reads : (from : Start) (actions : List Action) (id : ℕ) (text : List ℕ) (u : Unit {0}) → allowed from actions id ≡ Ok u
     → (AllByRecursion IsReadable actions → commit_of text ≡ Some (own_info (id_text id) ∷ written_of actions))
-    → ArePlain actions → commit_of text ≡ Some (own_commit id actions)
-allowed_reads from actions id text u may reads plain =
+    → commit_of text ≡ Some (own_commit id actions)
+allowed_reads from actions id text u may reads =
     let valid : IsValidNext from.before from.version (own_commit id actions) = no_rule (unsupported from.before.protocol) (first_broken from.before from.version (own_commit id actions)) u may in
-    let itself = valid_reads (id_text id) from.before from.version actions valid plain in
+    let itself = valid_reads (id_text id) from.before from.version actions valid in
     reads itself.each ∙ ap (λ (rest : List Action). Some (own_info (id_text id) ∷ rest)) itself.written
 
 -- what is written from the start that was found is written by the events
@@ -104,12 +104,8 @@ failed_history version path bytes text commit old new error at small same failed
 refuses_commit : (events : List Told) (refusal : Refusal) (meant : Result Writing Refusal) (later : Option (List Told)) → Refuses refusal meant → later ≡ Some events → CommitRefuses refusal meant events later
 refuses_commit events refusals.Store meant later means same = inl same
 refuses_commit events refusals.OutOfMemory meant later means same = same
-refuses_commit events (refusals.Missing path) meant later means same = (means, same)
-refuses_commit events (refusals.Unsupported name) meant later means same = (means, same)
-refuses_commit events (refusals.Damaged path place) meant later means same = (means, same)
-refuses_commit events (refusals.Limit which value) meant later means same = (means, same)
-refuses_commit events (refusals.Invalid rule) meant later means same = (means, same)
 refuses_commit events (refusals.Taken path) meant later means same = absurd means
+refuses_commit events refusal meant later means same = (means, same)
 
 pub once_refused : (told later : Option (List Told)) (actions : List Action) (now : ℤ) (id : ℕ) (refusal : Refusal) → later ≡ told
     → IfSome told (λ events. Refuses refusal (attempt events actions now id)) → IfSome told (λ events. CommitRefuses refusal (attempt events actions now id) events later)

@@ -11,7 +11,7 @@ use Rattle.dk_engine.specs.declared.limits.Which.TheVariants as limits
 use Rattle.dk_engine.specs.declared.refusal.Refusal.{Refusal}
 use Rattle.dk_engine.specs.declared.refusal.Refusal.TheVariants as refusals
 use Rattle.dk_snapshot.specs.declared.snapshot.Snapshot.{Snapshot}
-use Rattle.dk_snapshot.specs.Newest.{newest}
+use Rattle.dk_snapshot.specs.Opened.{opened}
 use Rattle.dk_snapshot.specs.Plan.{stands, greatest_below}
 use Rattle.dk_lawful.specs.Rules.{first_broken}
 use Rattle.dk_txn.specs.declared.start.Start.{Start}
@@ -26,13 +26,13 @@ abbrev pub after_snapshot : Result Snapshot Refusal → Result Start Refusal
 after_snapshot (Ok snapshot) = Ok (record { version = snapshot.version + 1; before = snapshot.state })
 after_snapshot (Err refusal) = Err refusal
 
--- by the greatest version whose commit stands: nothing, or the newest version, and nothing comes after the greatest that there can be
-abbrev pub start_after : List Told → Option ℕ → Result Start Refusal
-start_after events None = Ok (record { version = 0; before = empty_state })
-start_after events (Some latest) = if latest == last_version then Err (refusals.Limit limits.Version last_version) else after_snapshot (newest events)
+-- by the greatest version whose commit stands: nothing, or the latest version, and nothing comes after the greatest that there can be
+abbrev pub start_after : List Told → ℤ → Option ℕ → Result Start Refusal
+start_after events now None = Ok (record { version = 0; before = empty_state })
+start_after events now (Some latest) = if latest == last_version then Err (refusals.Limit limits.Version last_version) else after_snapshot (opened events None now)
 
-abbrev pub start : List Told → Result Start Refusal
-start events = start_after events (greatest_below (stands events) (2 ^ 63))
+abbrev pub start : List Told → ℤ → Result Start Refusal
+start events now = start_after events now (greatest_below (stands events) (2 ^ 63))
 
 -- ---- whether it may come there
 
@@ -73,4 +73,4 @@ attempt_from (Err refusal) actions now id = Err refusal
 
 -- what a commit over these events is to write, or why it is refused
 abbrev pub attempt : List Told → List Action → ℤ → ℕ → Result Writing Refusal
-attempt events actions now id = attempt_from (start events) actions now id
+attempt events actions now id = attempt_from (start events now) actions now id

@@ -1,11 +1,9 @@
 -- What a commit did to the events of the store and to the history, by its answer.
-use Rattle.std.specs.Prelude.{◌≡◌, ◌⊎◌, true, ℕ, ℤ, List, Option, Some, Result, Ok, Err, IsNone}
-use Rattle.std.specs.List.{AllByRecursion}
+use Rattle.std.specs.Prelude.{◌≡◌, ◌⊎◌, ℕ, ℤ, List, Option, Some, Result, Ok, Err, IsNone}
 use Rattle.dk_store.specs.Told.{Told}
 use Rattle.dk_store.specs.Objects.{object}
 use Rattle.dk_store.specs.Writing.{AddsMade}
 use Rattle.dk_model.specs.declared.action.Action.{Action}
-use Rattle.dk_model.specs.PlainTables.{is_plain}
 use Rattle.dk_paths.specs.Names.{commit_path}
 use Rattle.dk_engine.specs.declared.refusal.Refusal.{Refusal}
 use Rattle.dk_engine.specs.declared.refusal.Refusal.TheVariants as refusals
@@ -29,12 +27,8 @@ Writes meant events version later = (text : List ℕ) × (meant ≡ Ok (version,
 abbrev pub CommitRefuses : Refusal → Result Writing Refusal → List Told → Option (List Told) → Type 0
 CommitRefuses refusals.Store meant events later = (later ≡ Some events) ⊎ ((version : ℕ) × Writes meant events version later)
 CommitRefuses refusals.OutOfMemory meant events later = later ≡ Some events
-CommitRefuses (refusals.Missing path) meant events later = (meant ≡ Err (refusals.Missing path)) × (later ≡ Some events)
-CommitRefuses (refusals.Unsupported name) meant events later = (meant ≡ Err (refusals.Unsupported name)) × (later ≡ Some events)
-CommitRefuses (refusals.Damaged path place) meant events later = (meant ≡ Err (refusals.Damaged path place)) × (later ≡ Some events)
-CommitRefuses (refusals.Limit which value) meant events later = (meant ≡ Err (refusals.Limit which value)) × (later ≡ Some events)
-CommitRefuses (refusals.Invalid rule) meant events later = (meant ≡ Err (refusals.Invalid rule)) × (later ≡ Some events)
 CommitRefuses (refusals.Taken path) meant events later = ⊥
+CommitRefuses refusal meant events later = (meant ≡ Err refusal) × (later ≡ Some events)
 
 -- what a commit did to the events that were told, by what is meant over them
 abbrev pub Commits : Result Writing Refusal → List Told → Result Committed Refusal → Option (List Told) → Type 0
@@ -42,10 +36,6 @@ Commits meant events (Ok committed) later = Writes meant events committed.versio
 Commits meant events (Err refusal) later = CommitRefuses refusal meant events later
 
 -- ---- the history
-
--- actions of tables that are read so far
-abbrev pub ArePlain : List Action → Type 0
-ArePlain actions = AllByRecursion (λ a. is_plain a ≡ true) actions
 
 -- With Ok the history has this commit more, at the version that was answered. After a failure of the store it may have it, and after any other refusal it is as it was.
 abbrev pub HistoryAfterRefusal : Refusal → List Action → List Told → List Told → Type 0

@@ -1,4 +1,3 @@
 pub mod Attempt
 pub mod Commits
-pub mod Laws
 pub mod Walks

@@ -1,5 +1,5 @@
 -- The rules as they are tested, action by action.
-use Rattle.std.specs.Prelude.{ℕ, ◌==◌, ◌&&◌, ◌||◌, not, Bool, true, List, [], ◌∷◌}
+use Rattle.std.specs.Prelude.{ℕ, ◌==◌, ◌&&◌, ◌||◌, not, Bool, true, false, List, [], ◌∷◌}
 use Rattle.std.specs.Borrow.{Bor}
 use Rattle.std.specs.Ordering.{nat_cmp}
 use Rattle.std.specs.Cmp.Lexicographic.{slice_cmp}
@@ -22,3 +22,11 @@ abbrev pub written_after : Bool → List Action → Bool
 written_after written [] = written
 written_after written (action.Protocol p ∷ actions) = written_after (p.min_writer == 1) actions
 written_after written (_ ∷ actions) = written_after written actions
+
+-- an action that may stand behind the line in which a commit speaks of itself
+abbrev pub stands_behind_own : Action → Bool
+stands_behind_own (action.Info i) = false
+stands_behind_own action.Cdc = false
+stands_behind_own (action.CheckpointMeta m) = false
+stands_behind_own (action.Sidecar r) = false
+stands_behind_own _ = true

@@ -4,7 +4,6 @@ ghost use Rattle.dk_store.specs.Causes.{Rose};
 ghost use Rattle.dk_model.specs.CommitText.{commit_of};
 ghost use Rattle.dk_engine.specs.Answers.{Gives};
 ghost use Rattle.dk_txn.specs.Attempt.{own_commit, unsupported, allowed, attempt_from, attempt};
-ghost use Rattle.dk_txn.specs.Commits.{ArePlain};
 
 use crate::rules::first_broken;
 use crate::start::{Start, find_start};
@@ -61,7 +60,7 @@ fn writing_from(
     id: u128,
 ) -> Result<Writing, Refusal>
     ensures means { Gives (λ w. (w.version, w.text.items)) result (attempt_from (Ok from.now) actions.now now id) }
-    ensures reads_back { IfOk result (λ w. ArePlain actions.now → commit_of w.text.items ≡ Some (own_commit id actions.now)) }
+    ensures reads_back { IfOk result (λ w. commit_of w.text.items ≡ Some (own_commit id actions.now)) }
     ensures version { IfOk result (λ w. w.version ≡ from.now.version) }
     ensures store { result ≡ Err Refusal.Store → ⊥ }
     ensures taken { (path : List ℕ) → result ≡ Err (Refusal.Taken path) → ⊥ }
@@ -90,10 +89,10 @@ pub(crate) fn attempt(
     ensures store { result ≡ Err Refusal.Store → Rose (store_faults store.old) (store_faults store.new) }
     ensures taken { (path : List ℕ) → result ≡ Err (Refusal.Taken path) → ⊥ }
     ensures means { IfSome (told store.old) (λ events. Gives (λ w. (w.version, w.text.items)) result (attempt events actions.now now id)) }
-    ensures reads_back { IfOk result (λ w. ArePlain actions.now → commit_of w.text.items ≡ Some (own_commit id actions.now)) }
+    ensures reads_back { IfOk result (λ w. commit_of w.text.items ≡ Some (own_commit id actions.now)) }
     ensures small { IfOk result (λ w. w.version < 2 ^ 63) }
 {
-    match find_start(alloc, store, json) {
+    match find_start(alloc, store, json, now) {
         Err(refusal) => Err(refusal),
         Ok(from) => writing_from(alloc, json, &from, actions, now, id),
     }

@@ -10,7 +10,7 @@ ghost use Rattle.dk_lawful.specs.Lawful.{Lawful};
 ghost use Rattle.dk_lawful.specs.Permits.{IsNextCommit};
 ghost use Rattle.dk_lawful.specs.Kept.{IfBoth, KeepsLawful};
 ghost use Rattle.dk_txn.specs.Attempt.{own_commit, attempt};
-ghost use Rattle.dk_txn.specs.Commits.{ArePlain, ComesNext, Commits, SaysHistory};
+ghost use Rattle.dk_txn.specs.Commits.{ComesNext, Commits, SaysHistory};
 
 use crate::attempt::{Writing, attempt};
 use dk_engine::{JsonHandler, Refusal};
@@ -85,8 +85,8 @@ fn commit_once(
     ensures clashes_later { clashes store.old ≤ clashes store.new }
     ensures store { result ≡ Err Refusal.Store → Rose (store_faults store.old) (store_faults store.new) }
     ensures taken { (path : List ℕ) → result ≡ Err (Refusal.Taken path) → Rose (clashes store.old) (clashes store.new) }
-    ensures lawful { ArePlain actions.now → KeepsLawful (told store.old) (told store.new) }
-    ensures history { ArePlain actions.now → IfBoth (told store.old) (told store.new) (SaysHistory (own_commit id actions.now) result) }
+    ensures lawful { KeepsLawful (told store.old) (told store.new) }
+    ensures history { IfBoth (told store.old) (told store.new) (SaysHistory (own_commit id actions.now) result) }
 {
     match attempt(alloc, store, json, actions, now, id) {
         Err(refusal) => Err(refusal),
@@ -104,8 +104,8 @@ fn commit_once(
 ///
 /// `commits` says which event is added, and exactly when each refusal comes; `lawful` and `history` say the same in the
 /// subject's own words: the log stays lawful, and has this commit more, at the answered version. Refusals that add
-/// nothing: `Missing` and `Damaged` of the newest version, `Limit` where no version can follow, `Unsupported` where
-/// the table asks for another writer version than 1, `Invalid` where a rule is broken, `Taken` where two other writers
+/// nothing: those of opening the latest version, `Limit` where no version can follow, `Unsupported` where the table
+/// asks for another writer version than 1, `Invalid` where a rule is broken, `Taken` where two other writers
 /// were there first.
 pub fn commit_now(
     alloc: Global,
@@ -123,8 +123,8 @@ pub fn commit_now(
     ensures taken { (path : List ℕ) → result ≡ Err (Refusal.Taken path) → Rose (clashes store.old) (clashes store.new) }
 
     // In the subject's own words.
-    ensures lawful { ArePlain actions.now → KeepsLawful (told store.old) (told store.new) }
-    ensures history { ArePlain actions.now → IfBoth (told store.old) (told store.new) (SaysHistory (own_commit id actions.now) result) }
+    ensures lawful { KeepsLawful (told store.old) (told store.new) }
+    ensures history { IfBoth (told store.old) (told store.new) (SaysHistory (own_commit id actions.now) result) }
 {
     match commit_once(alloc, store, json, actions, now, id) {
         Err(Refusal::Taken { .. }) => commit_once(alloc, store, json, actions, now, id),

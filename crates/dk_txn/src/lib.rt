@@ -3,7 +3,6 @@
 
 mod attempt;
 mod commit;
-pub mod laws;
 mod rules;
 mod start;
 #[cfg(test)]

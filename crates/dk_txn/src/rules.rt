@@ -2,7 +2,7 @@
 ghost use Rattle.std.specs.Prelude.{◌≡◌, ℕ, List, ◌∷◌, IfOk, length, option_map};
 ghost use Rattle.std.specs.List.{filter_map};
 ghost use Rattle.dk_model.specs.ReadBack.{own_info};
-ghost use Rattle.dk_lawful.specs.Rules.{protocol_in, metadata_in, info_in, file_path_in, is_count_allowed, keeps_heads, keeps_info, keeps_paths_apart, has_first_form, is_not_lower, keeps_protocol, is_written, keeps_writer, is_plain_add, keeps_adds, first_broken};
+ghost use Rattle.dk_lawful.specs.Rules.{protocol_in, metadata_in, info_in, file_path_in, is_count_allowed, keeps_heads, keeps_kinds, keeps_paths_apart, has_first_form, is_not_lower, keeps_protocol, is_written, keeps_writer, is_plain_add, keeps_adds, first_broken};
 
 use dk_model::{Action, Protocol, TableState, Text};
 use std::alloc::{AllocError, Global};
@@ -45,12 +45,12 @@ fn keeps_heads(version: u64, actions: &[Action]) -> bool
         && is_count_allowed(version, count_metadata(actions))
 }
 
-/// Whether there is no commitInfo beside the commit's own.
-fn keeps_info(actions: &[Action]) -> bool
-    ensures { (txn_id : List ℕ) → result ≡ keeps_info (own_info txn_id ∷ actions.now) }
+/// Whether there is no commitInfo beside the commit's own, and none of cdc, checkpointMetadata and sidecar.
+fn keeps_kinds(actions: &[Action]) -> bool
+    ensures { (txn_id : List ℕ) → result ≡ keeps_kinds (own_info txn_id ∷ actions.now) }
 {
     for action in actions {
-        if let Action::Info(_) = action {
+        if let Action::Info(_) | Action::Cdc | Action::CheckpointMeta(_) | Action::Sidecar(_) = action {
             return false;
         }
     }
@@ -169,7 +169,7 @@ pub(crate) fn first_broken(
     if !keeps_heads(version, actions) {
         return Ok(Some(1));
     }
-    if !keeps_info(actions) {
+    if !keeps_kinds(actions) {
         return Ok(Some(2));
     }
     if !keeps_paths_apart(alloc, actions)? {

@@ -39,6 +39,7 @@ fn start_listed(
     store: &mut dyn Store,
     json: &mut dyn JsonHandler,
     versions: &[u64],
+    now: i64,
 ) -> Result<Start, Refusal>
     requires { All (λ version. version < 2 ^ 63) versions.now }
     ensures same { told store.new ≡ told store.old }
@@ -46,7 +47,7 @@ fn start_listed(
     ensures later { store_faults store.old ≤ store_faults store.new }
     ensures store { result ≡ Err Refusal.Store → Rose (store_faults store.old) (store_faults store.new) }
     ensures taken { (path : List ℕ) → result ≡ Err (Refusal.Taken path) → ⊥ }
-    ensures means { IfSome (told store.old) (λ events. ListsVersions events versions.now → Gives (λ from. from) result (start events)) }
+    ensures means { IfSome (told store.old) (λ events. ListsVersions events versions.now → Gives (λ from. from) result (start events now)) }
     ensures small { IfOk result (λ from. from.version < 2 ^ 63) }
 {
     let Some(latest) = latest(versions) else {
@@ -61,7 +62,7 @@ fn start_listed(
             value: MAX_VERSION,
         });
     }
-    match open_listed(alloc, store, json, versions) {
+    match open_listed(alloc, store, json, versions, None, now) {
         Err(refusal) => Err(refusal),
         Ok(snapshot) => Ok(after(snapshot)),
     }
@@ -72,17 +73,18 @@ pub(crate) fn find_start(
     alloc: Global,
     store: &mut dyn Store,
     json: &mut dyn JsonHandler,
+    now: i64,
 ) -> Result<Start, Refusal>
     ensures same { told store.new ≡ told store.old }
     ensures clashes { clashes store.new ≡ clashes store.old }
     ensures later { store_faults store.old ≤ store_faults store.new }
     ensures store { result ≡ Err Refusal.Store → Rose (store_faults store.old) (store_faults store.new) }
     ensures taken { (path : List ℕ) → result ≡ Err (Refusal.Taken path) → ⊥ }
-    ensures means { IfSome (told store.old) (λ events. Gives (λ from. from) result (start events)) }
+    ensures means { IfSome (told store.old) (λ events. Gives (λ from. from) result (start events now)) }
     ensures small { IfOk result (λ from. from.version < 2 ^ 63) }
 {
     match survey(alloc, store) {
         Err(refusal) => Err(refusal),
-        Ok(versions) => start_listed(alloc, store, json, &versions),
+        Ok(versions) => start_listed(alloc, store, json, &versions, now),
     }
 }

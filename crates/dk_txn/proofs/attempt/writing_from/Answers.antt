@@ -12,4 +12,4 @@ pub returns-in_ok-commit_text-in-Ok-clause-means : goal.returns-in_ok-commit_tex
 returns-in_ok-commit_text-in-Ok-clause-means g c = allowed_writes c.args.from.now c.args.actions.now c.args.now c.args.id _ _ tt (c.in-Ok.ensures.means c.args.id) refl (search rules)
 
 pub returns-in_ok-commit_text-in-Ok-clause-reads_back : goal.returns-in_ok-commit_text-in-Ok-clause-reads_back
-returns-in_ok-commit_text-in-Ok-clause-reads_back g c = λ plain. allowed_reads c.args.from.now c.args.actions.now c.args.id c.in_ok-commit_text-in-Ok.field-0.items tt (c.in-Ok.ensures.means c.args.id) c.in_ok-commit_text-in-Ok.ensures.reads_back plain
+returns-in_ok-commit_text-in-Ok-clause-reads_back g c = allowed_reads c.args.from.now c.args.actions.now c.args.id c.in_ok-commit_text-in-Ok.field-0.items tt (c.in-Ok.ensures.means c.args.id) c.in_ok-commit_text-in-Ok.ensures.reads_back

@@ -8,9 +8,9 @@ returns-in-Ok-clause-commits g c = once_written _ _ _ c.args.actions.now c.args.
     (to_z-of_z w64 c.args.now c.ranges.now) c.in-Ok.ensures.same c.in-Ok.ensures.means c.write.ensures.commits
 
 pub returns-in-Ok-clause-lawful : goal.returns-in-Ok-clause-lawful
-returns-in-Ok-clause-lawful g c = λ plain. once_lawful _ _ _ c.args.actions.now _ c.args.id c.in-Ok.writing.version c.in-Ok.writing.text.items
-    c.in-Ok.ensures.same c.in-Ok.ensures.means (c.in-Ok.ensures.reads_back plain) c.write.ensures.lawful
+returns-in-Ok-clause-lawful g c = once_lawful _ _ _ c.args.actions.now _ c.args.id c.in-Ok.writing.version c.in-Ok.writing.text.items
+    c.in-Ok.ensures.same c.in-Ok.ensures.means c.in-Ok.ensures.reads_back c.write.ensures.lawful
 
 pub returns-in-Ok-clause-history : goal.returns-in-Ok-clause-history
-returns-in-Ok-clause-history g c = λ plain. once_history _ _ _ c.args.actions.now _ c.args.id c.in-Ok.writing.version c.in-Ok.writing.text.items c.write.result
-    c.in-Ok.ensures.same c.in-Ok.ensures.means (c.in-Ok.ensures.reads_back plain) c.write.ensures.history
+returns-in-Ok-clause-history g c = once_history _ _ _ c.args.actions.now _ c.args.id c.in-Ok.writing.version c.in-Ok.writing.text.items c.write.result
+    c.in-Ok.ensures.same c.in-Ok.ensures.means c.in-Ok.ensures.reads_back c.write.ensures.history

@@ -3,7 +3,7 @@ use Rattle.dk_txn.proofs.Starts.{survey_refused, survey_started}
 use Rattle.dk_txn.proofs.start.find_start.Goals as goal
 
 pub returns-in-Err-clause-means : goal.returns-in-Err-clause-means
-returns-in-Err-clause-means g c = survey_refused _ _ c.in-Err.ensures.found
+returns-in-Err-clause-means g c = survey_refused _ _ _ c.in-Err.ensures.found
 
 pub returns-in-Ok-clause-means : goal.returns-in-Ok-clause-means
-returns-in-Ok-clause-means g c = survey_started {X = Start} (λ from. from) _ _ _ _ c.start_listed.result c.deref.ensures.value c.in-Ok.ensures.same c.in-Ok.ensures.found c.start_listed.ensures.means
+returns-in-Ok-clause-means g c = survey_started {X = Start} (λ from. from) _ _ _ _ _ c.start_listed.result c.deref.ensures.value c.in-Ok.ensures.same c.in-Ok.ensures.found c.start_listed.ensures.means

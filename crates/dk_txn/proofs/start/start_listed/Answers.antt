@@ -3,13 +3,13 @@ use Rattle.dk_txn.proofs.Starts.{start_none, start_last, start_refused, start_op
 use Rattle.dk_txn.proofs.start.start_listed.Goals as goal
 
 pub returns-in_default-clause-means : goal.returns-in_default-clause-means
-returns-in_default-clause-means g c = start_none _ c.args.versions.now c.latest.result c.new.result c.requires c.latest.ensures.value (search rules) c.new.ensures
+returns-in_default-clause-means g c = start_none _ _ c.args.versions.now c.latest.result c.new.result c.requires c.latest.ensures.value (search rules) c.new.ensures
 
 pub returns-then-latest-eq-MAX_VERSION-clause-means : goal.returns-then-latest-eq-MAX_VERSION-clause-means
-returns-then-latest-eq-MAX_VERSION-clause-means g c = start_last _ c.args.versions.now c.latest.result c.in-Some.latest c.requires c.latest.ensures.value c.in-Some.is (search rules)
+returns-then-latest-eq-MAX_VERSION-clause-means g c = start_last _ _ c.args.versions.now c.latest.result c.in-Some.latest c.requires c.latest.ensures.value c.in-Some.is (search rules)
 
 pub returns-in-Err-clause-means : goal.returns-in-Err-clause-means
-returns-in-Err-clause-means g c = start_refused _ c.args.versions.now c.latest.result c.in-Some.latest c.in-Err.refusal c.requires c.latest.ensures.value c.in-Some.is (search rules) c.in-Err.ensures.means
+returns-in-Err-clause-means g c = start_refused _ _ c.args.versions.now c.latest.result c.in-Some.latest c.in-Err.refusal c.requires c.latest.ensures.value c.in-Some.is (search rules) c.in-Err.ensures.means
 
 pub returns-in-Ok-clause-means : goal.returns-in-Ok-clause-means
-returns-in-Ok-clause-means g c = start_opened _ c.args.versions.now c.latest.result c.in-Some.latest c.in-Ok.snapshot c.after.result c.requires c.latest.ensures.value c.in-Some.is (search rules) c.after.ensures.version c.after.ensures.before c.in-Ok.ensures.means
+returns-in-Ok-clause-means g c = start_opened _ _ c.args.versions.now c.latest.result c.in-Some.latest c.in-Ok.snapshot c.after.result c.requires c.latest.ensures.value c.in-Some.is (search rules) c.after.ensures.version c.after.ensures.before c.in-Ok.ensures.means

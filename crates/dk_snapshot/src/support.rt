@@ -1,0 +1,111 @@
+//! Which states are opened, and from which moment on their removed files are still told.
+ghost use Rattle.std.specs.Prelude.{◌≡◌, ◌≤ℤ◌, ℕ, pos, List, Err, Some, IfOk, IfSome};
+ghost use Rattle.dk_engine.specs.Answers.{Gives};
+ghost use Rattle.dk_snapshot.specs.Support.{cut_before, cut_of, cut_with, has_vectors, is_reader_known, retention, unread};
+
+use dk_engine::Refusal;
+use dk_model::{AddFile, Metadata, Protocol, TableState, Text, TextMap};
+use dk_paths::{commit_path, read_interval};
+use std::alloc::{AllocError, Global};
+
+/// The setting of how long removed files are told.
+const RETENTION_KEY: &str = "delta.deletedFileRetentionDuration";
+
+/// How long removed files are told where it isn't set, in milliseconds: one week.
+const USUAL_RETENTION: i128 = 604_800_000;
+
+fn is_reader_known(protocol: &Protocol) -> bool
+    ensures { result ≡ is_reader_known protocol.now }
+{
+    protocol.min_reader == 1 || protocol.min_reader == 2
+}
+
+/// Whether a deletion vector stands beside a file.
+fn has_vectors(files: &TextMap<AddFile>) -> bool
+    ensures { result ≡ has_vectors files.now }
+{
+    for (_path, file) in files.iter() {
+        if file.vector {
+            return true;
+        }
+    }
+    false
+}
+
+/// What isn't read so far, by its name.
+fn unread(
+    alloc: Global,
+    protocol: &Protocol,
+    files: &TextMap<AddFile>,
+) -> Result<Option<Text>, AllocError>
+    ensures { IfOk result (λ name. name ≡ unread protocol.now files.now) }
+{
+    if !is_reader_known(protocol) {
+        let version = protocol.min_reader;
+        let name = format!(in alloc; "minReaderVersion {version}")?;
+        return Ok(Some(Text::new(name)));
+    }
+    if has_vectors(files) {
+        return Ok(Some(Text::from_str(alloc, "deletionVectors")?));
+    }
+    Ok(None)
+}
+
+/// How long removed files are told, in milliseconds; None where the setting's text is no interval.
+fn retention(metadata: &Metadata) -> Option<i128>
+    ensures value { result ≡ retention metadata.now }
+    ensures not_negative { IfSome result (λ kept. pos 0 ≤ℤ kept) }
+{
+    match metadata.setting(RETENTION_KEY) {
+        None => Some(USUAL_RETENTION),
+        Some(text) => read_interval(text.as_str()),
+    }
+}
+
+/// The moment up to which tombstones are expired.
+fn cut_before(now: i64, kept: i128) -> i64
+    requires { pos 0 ≤ℤ kept }
+    ensures { result ≡ cut_before now kept }
+{
+    (now as i128).saturating_sub(kept).max(i64::MIN as i128) as i64
+}
+
+/// The cut of a state with these parts, at a moment.
+fn cut_with(
+    alloc: Global,
+    protocol: &Protocol,
+    metadata: &Metadata,
+    files: &TextMap<AddFile>,
+    now: i64,
+) -> Result<i64, Refusal>
+    ensures means { Gives (λ cut. cut) result (cut_with (Some protocol.now) (Some metadata.now) files.now now) }
+    ensures store { result ≡ Err Refusal.Store → ⊥ }
+    ensures taken { (path : List ℕ) → result ≡ Err (Refusal.Taken path) → ⊥ }
+{
+    if let Some(name) = unread(alloc, protocol, files)? {
+        return Err(Refusal::Unsupported { name });
+    }
+    match retention(metadata) {
+        Some(kept) => Ok(cut_before(now, kept)),
+        None => Err(Refusal::Unsupported {
+            name: Text::from_str(alloc, RETENTION_KEY)?,
+        }),
+    }
+}
+
+/// The cut of a state at a moment, where the state is one that is opened.
+pub(crate) fn cut_of(alloc: Global, state: &TableState, now: i64) -> Result<i64, Refusal>
+    ensures means { Gives (λ cut. cut) result (cut_of state.now now) }
+    ensures store { result ≡ Err Refusal.Store → ⊥ }
+    ensures taken { (path : List ℕ) → result ≡ Err (Refusal.Taken path) → ⊥ }
+{
+    match (&state.protocol, &state.metadata) {
+        (Some(protocol), Some(metadata)) => {
+            cut_with(alloc, protocol, metadata, &state.files, now)
+        }
+        _ => Err(Refusal::Damaged {
+            path: Text::new(commit_path(alloc, 0)?),
+            place: 0,
+        }),
+    }
+}
