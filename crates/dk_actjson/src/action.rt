@@ -6,16 +6,21 @@ ghost use Rattle.dk_model.specs.ProtocolObject.{protocol_of};
 ghost use Rattle.dk_model.specs.MetadataObject.{format_of, metadata_of};
 ghost use Rattle.dk_model.specs.AddObject.{add_of};
 ghost use Rattle.dk_model.specs.RemoveObject.{remove_of};
+ghost use Rattle.dk_model.specs.TxnObject.{txn_of};
+ghost use Rattle.dk_model.specs.DomainObject.{domain_of};
 ghost use Rattle.dk_model.specs.InfoObject.{info_of};
-ghost use Rattle.dk_model.specs.PlainTables.{is_retention_key as is_retention_key_of, has_own_retention as has_own_retention_of, is_plain as is_plain_action};
-ghost use Rattle.dk_model.specs.ActionObject.{one_key, action_under, plain, keyed, action_of as action_in};
-ghost use Rattle.dk_actjson.specs.Faults.{Gives};
+ghost use Rattle.dk_model.specs.CheckpointObjects.{checkpoint_meta_of, sidecar_of};
+ghost use Rattle.dk_model.specs.ActionKeys.{name_of};
+ghost use Rattle.dk_model.specs.Fields.{needed as needed_of};
+ghost use Rattle.dk_model.specs.ActionObject.{one_key, action_under, content_form, keyed, action_of as action_in};
+ghost use Rattle.dk_actjson.specs.Faults.{Gives, GivesBy};
 
 use crate::fault::ActionFault;
 use crate::field::{lenient, needed, needed_group, optional, optional_group};
 use crate::tree::Tree;
 use dk_model::{
-    Action, ActionKey, AddFile, CommitInfo, Metadata, Names, Pairs, Protocol, RemoveFile, Text,
+    Action, ActionKey, AddFile, CheckpointMeta, CommitInfo, Domain, Metadata, Names, Pairs,
+    Protocol, RemoveFile, SidecarRef, Text, Txn,
 };
 use serde_json::Value;
 use std::alloc::Global;
@@ -145,6 +150,34 @@ fn read_remove<T: Tree>(alloc: Global, object: &T) -> Result<RemoveFile, ActionF
     })
 }
 
+#[tactic(auto, unfolding(dk_model::specs::TxnObject::txn_of))]
+fn read_txn<T: Tree>(alloc: Global, object: &T) -> Result<Txn, ActionFault>
+    ensures { Gives result (txn_of (T.meant object.now)) }
+{
+    let app_id = needed(alloc, object, "appId")?;
+    let version = needed(alloc, object, "version")?;
+    let last_updated = optional(alloc, object, "lastUpdated")?;
+    Ok(Txn {
+        app_id,
+        version,
+        last_updated,
+    })
+}
+
+#[tactic(auto, unfolding(dk_model::specs::DomainObject::domain_of))]
+fn read_domain<T: Tree>(alloc: Global, object: &T) -> Result<Domain, ActionFault>
+    ensures { Gives result (domain_of (T.meant object.now)) }
+{
+    let domain = needed(alloc, object, "domain")?;
+    let configuration = needed(alloc, object, "configuration")?;
+    let removed = needed(alloc, object, "removed")?;
+    Ok(Domain {
+        domain,
+        configuration,
+        removed,
+    })
+}
+
 /// What is said of a commit. A field of another form counts as absent.
 #[tactic(auto, unfolding(dk_model::specs::InfoObject::info_of))]
 fn read_info<T: Tree>(alloc: Global, object: &T) -> Result<CommitInfo, ActionFault>
@@ -156,6 +189,24 @@ fn read_info<T: Tree>(alloc: Global, object: &T) -> Result<CommitInfo, ActionFau
         in_commit_timestamp,
         txn_id,
     })
+}
+
+#[tactic(auto, unfolding(dk_model::specs::CheckpointObjects::checkpoint_meta_of))]
+fn read_checkpoint_meta<T: Tree>(alloc: Global, object: &T) -> Result<CheckpointMeta, ActionFault>
+    ensures { Gives result (checkpoint_meta_of (T.meant object.now)) }
+{
+    let version = needed(alloc, object, "version")?;
+    Ok(CheckpointMeta { version })
+}
+
+#[tactic(auto, unfolding(dk_model::specs::CheckpointObjects::sidecar_of))]
+fn read_sidecar<T: Tree>(alloc: Global, object: &T) -> Result<SidecarRef, ActionFault>
+    ensures { Gives result (sidecar_of (T.meant object.now)) }
+{
+    let path = needed(alloc, object, "path")?;
+    let size = needed(alloc, object, "sizeInBytes")?;
+    let stamp = needed(alloc, object, "modificationTime")?;
+    Ok(SidecarRef { path, size, stamp })
 }
 
 /// The one key of these that the object has.
@@ -174,7 +225,7 @@ fn read_key<T: Tree>(object: &T, keys: &[ActionKey]) -> Result<Option<ActionKey>
     Ok(found)
 }
 
-/// The action under a key. Those of the last arm are not read so far.
+/// The action under a key.
 fn read_under<T: Tree>(alloc: Global, key: ActionKey, object: &T) -> Result<Action, ActionFault>
     ensures { Gives result (action_under key (T.meant object.now)) }
 {
@@ -183,39 +234,26 @@ fn read_under<T: Tree>(alloc: Global, key: ActionKey, object: &T) -> Result<Acti
         ActionKey::Metadata => Ok(Action::Metadata(read_metadata(alloc, object)?)),
         ActionKey::Add => Ok(Action::Add(read_add(alloc, object)?)),
         ActionKey::Remove => Ok(Action::Remove(read_remove(alloc, object)?)),
+        ActionKey::Txn => Ok(Action::Txn(read_txn(alloc, object)?)),
+        ActionKey::Domain => Ok(Action::Domain(read_domain(alloc, object)?)),
         ActionKey::Info => Ok(Action::Info(read_info(alloc, object)?)),
-        _ => Err(ActionFault::Bad),
-    }
-}
-
-#[tactic(auto, unfolding(dk_model::specs::PlainTables::is_retention_key))]
-fn is_retention_key(key: &str) -> bool
-    ensures { result ≡ is_retention_key_of key.now }
-{
-    key == "delta.deletedFileRetentionDuration"
-}
-
-fn has_own_retention(metadata: &Metadata) -> bool
-    ensures { result ≡ has_own_retention_of metadata.now }
-{
-    'pairs: for pair in metadata.configuration.as_slice() {
-        if is_retention_key(pair.0.as_str()) {
-            return true;
+        ActionKey::Cdc => Ok(Action::Cdc),
+        ActionKey::CheckpointMeta => {
+            let meta = read_checkpoint_meta(alloc, object)?;
+            Ok(Action::CheckpointMeta(meta))
         }
+        ActionKey::Sidecar => Ok(Action::Sidecar(read_sidecar(alloc, object)?)),
     }
-    false
 }
 
-/// Whether the table is one that is read so far: of reader version 1 or 2, without deletion vectors,
-/// its removed files kept for the default time.
-fn is_plain(action: &Action) -> bool
-    ensures { result ≡ is_plain_action action.now }
+/// The value under a key: an object, but for changed rows, whose value may be any but null.
+fn content<'v, T: Tree>(key: ActionKey, object: &'v T) -> Result<&'v T, ActionFault>
+    ensures { GivesBy (λ v. T.meant v.now) result
+        (needed_of (content_form key) (name_of key) (T.meant object.now)) }
 {
-    match action {
-        Action::Protocol(protocol) => protocol.min_reader == 1 || protocol.min_reader == 2,
-        Action::Metadata(metadata) => !has_own_retention(metadata),
-        Action::Add(file) => !file.vector,
-        Action::Remove(_) | Action::Info(_) => true,
+    match key {
+        ActionKey::Cdc => object.field(key.name()).ok_or(ActionFault::Bad),
+        _ => needed_group(object, key.name()),
     }
 }
 
@@ -229,13 +267,8 @@ fn read_keyed<T: Tree>(
     let Some(key) = key else {
         return Ok(None);
     };
-    let inner = needed_group(object, key.name())?;
-    let action = read_under(alloc, key, inner)?;
-    if is_plain(&action) {
-        Ok(Some(action))
-    } else {
-        Err(ActionFault::Bad)
-    }
+    let inner = content(key, object)?;
+    Ok(Some(read_under(alloc, key, inner)?))
 }
 
 /// The action of a tree, or none where there is nothing to do.

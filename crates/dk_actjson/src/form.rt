@@ -2,7 +2,7 @@
 
 ghost use Rattle.std.specs.Prelude.{Option};
 ghost use Rattle.serde_json.specs.Data.{Data};
-ghost use Rattle.dk_model.specs.Fields.{whole, version, text, flag, names, pairs};
+ghost use Rattle.dk_model.specs.Fields.{whole, version, count, text, flag, names, pairs};
 ghost use Rattle.dk_actjson.specs.Faults.{Gives};
 
 use crate::fault::ActionFault;
@@ -42,6 +42,18 @@ impl Form for u32 {
     fn read<T: Tree>(_alloc: Global, value: &T) -> Result<u32, ActionFault> {
         match value.unsigned() {
             Some(number) if number < 2_147_483_648 => Ok(number as u32),
+            _ => Err(ActionFault::Bad),
+        }
+    }
+}
+
+/// A version of a table, from 0 to 9,223,372,036,854,775,807.
+impl Form for u64 {
+    ghost form = { count };
+
+    fn read<T: Tree>(_alloc: Global, value: &T) -> Result<u64, ActionFault> {
+        match value.unsigned() {
+            Some(number) if number < 9_223_372_036_854_775_808 => Ok(number),
             _ => Err(ActionFault::Bad),
         }
     }

@@ -11,6 +11,7 @@ mod form;
 mod number;
 mod owned;
 mod read;
+mod recorded;
 mod shown;
 #[cfg(test)]
 mod tests;
@@ -22,6 +23,6 @@ pub use action::action_of;
 pub use fault::ActionFault;
 pub use read::read_commit;
 pub use write::{
-    append_action, append_add, append_metadata, append_own_info, append_protocol, append_remove,
-    append_tombstone, write_actions,
+    append_action, append_add, append_application, append_domain, append_metadata, append_own_info,
+    append_protocol, append_remove, append_tombstone, write_actions,
 };

@@ -45,6 +45,15 @@ impl Shown for u32 {
     }
 }
 
+/// A version of a table.
+impl Shown for u64 {
+    ghost shown = { version_data };
+
+    fn write(&self, writer: &mut Writer) -> Result<(), AllocError> {
+        writer.u64(*self)
+    }
+}
+
 impl Shown for bool {
     ghost shown = { flag_data };
 

@@ -8,11 +8,15 @@ ghost use Rattle.dk_model.specs.CommitText.{commit_of};
 ghost use Rattle.dk_model.specs.ReadBack.{IsSound, IsReadable, written_of};
 ghost use Rattle.dk_model.specs.Written.{line_of, written_line, text_of, own_info_line};
 
+use crate::recorded::{checkpoint_meta_member, domain_member, sidecar_member, txn_member};
 use crate::shown::{close_object, open_object};
 use crate::written::{
     add_member, metadata_member, own_info_member, protocol_member, remove_member,
 };
-use dk_model::{Action, AddFile, Metadata, Protocol, RemoveFile};
+use dk_model::{
+    Action, AddFile, Application, CheckpointMeta, Domain, Metadata, Protocol, RemoveFile,
+    SidecarRef, Txn,
+};
 use json::Writer;
 use std::alloc::{AllocError, Global};
 use std::mem;
@@ -100,6 +104,95 @@ fn remove_line(alloc: Global, out: &mut Vec<u8>, file: &RemoveFile) -> Result<()
     removal_line(alloc, out, path, file.deletion_timestamp, file.data_change)
 }
 
+/// The line of an application's version, by its parts.
+fn application_line(
+    alloc: Global,
+    out: &mut Vec<u8>,
+    app_id: &str,
+    application: &Application,
+) -> Result<(), AllocError>
+    ensures text { OnOk result (out.new.items ≡ out.old.items ++ line_of (Action.Txn
+        (record { app_id = app_id.now; version = application.now.version; last_updated = application.now.last_updated }))) }
+    ensures utf8 { OnOk result (IsUtf8 (line_of (Action.Txn
+        (record { app_id = app_id.now; version = application.now.version; last_updated = application.now.last_updated })))) }
+{
+    let mut writer = start_line(alloc, out);
+    open_object(&mut writer)?;
+    txn_member(&mut writer, app_id, application)?;
+    close_object(&mut writer)?;
+    end_line(out, writer)?;
+    Ok(())
+}
+
+fn txn_line(alloc: Global, out: &mut Vec<u8>, txn: &Txn) -> Result<(), AllocError>
+    ensures text { OnOk result (out.new.items ≡ out.old.items ++ line_of (Action.Txn txn.now)) }
+    ensures utf8 { OnOk result (IsUtf8 (line_of (Action.Txn txn.now))) }
+{
+    let application = Application {
+        version: txn.version,
+        last_updated: txn.last_updated,
+    };
+    application_line(alloc, out, txn.app_id.as_str(), &application)
+}
+
+/// The line of a domain's settings, by its parts.
+fn settings_line(
+    alloc: Global,
+    out: &mut Vec<u8>,
+    domain: &str,
+    configuration: &str,
+    removed: bool,
+) -> Result<(), AllocError>
+    ensures text { OnOk result (out.new.items ≡ out.old.items ++ line_of (Action.Domain
+        (record { domain = domain.now; configuration = configuration.now; removed = removed }))) }
+    ensures utf8 { OnOk result (IsUtf8 (line_of (Action.Domain
+        (record { domain = domain.now; configuration = configuration.now; removed = removed })))) }
+{
+    let mut writer = start_line(alloc, out);
+    open_object(&mut writer)?;
+    domain_member(&mut writer, domain, configuration, removed)?;
+    close_object(&mut writer)?;
+    end_line(out, writer)?;
+    Ok(())
+}
+
+fn domain_line(alloc: Global, out: &mut Vec<u8>, domain: &Domain) -> Result<(), AllocError>
+    ensures text { OnOk result (out.new.items ≡ out.old.items ++ line_of (Action.Domain domain.now)) }
+    ensures utf8 { OnOk result (IsUtf8 (line_of (Action.Domain domain.now))) }
+{
+    let name = domain.domain.as_str();
+    let configuration = domain.configuration.as_str();
+    settings_line(alloc, out, name, configuration, domain.removed)
+}
+
+fn checkpoint_meta_line(
+    alloc: Global,
+    out: &mut Vec<u8>,
+    meta: &CheckpointMeta,
+) -> Result<(), AllocError>
+    ensures text { OnOk result (out.new.items ≡ out.old.items ++ line_of (Action.CheckpointMeta meta.now)) }
+    ensures utf8 { OnOk result (IsUtf8 (line_of (Action.CheckpointMeta meta.now))) }
+{
+    let mut writer = start_line(alloc, out);
+    open_object(&mut writer)?;
+    checkpoint_meta_member(&mut writer, meta)?;
+    close_object(&mut writer)?;
+    end_line(out, writer)?;
+    Ok(())
+}
+
+fn sidecar_line(alloc: Global, out: &mut Vec<u8>, sidecar: &SidecarRef) -> Result<(), AllocError>
+    ensures text { OnOk result (out.new.items ≡ out.old.items ++ line_of (Action.Sidecar sidecar.now)) }
+    ensures utf8 { OnOk result (IsUtf8 (line_of (Action.Sidecar sidecar.now))) }
+{
+    let mut writer = start_line(alloc, out);
+    open_object(&mut writer)?;
+    sidecar_member(&mut writer, sidecar)?;
+    close_object(&mut writer)?;
+    end_line(out, writer)?;
+    Ok(())
+}
+
 /// The line of an action, where it has one.
 fn action_line(alloc: Global, out: &mut Vec<u8>, action: &Action) -> Result<(), AllocError>
     ensures text { OnOk result (out.new.items ≡ out.old.items ++ written_line action.now) }
@@ -110,12 +203,17 @@ fn action_line(alloc: Global, out: &mut Vec<u8>, action: &Action) -> Result<(), 
         Action::Metadata(metadata) => metadata_line(alloc, out, metadata),
         Action::Add(file) => add_line(alloc, out, file),
         Action::Remove(file) => remove_line(alloc, out, file),
-        Action::Info(_) => Ok(()),
+        Action::Txn(txn) => txn_line(alloc, out, txn),
+        Action::Domain(domain) => domain_line(alloc, out, domain),
+        Action::Info(_) | Action::Cdc => Ok(()),
+        Action::CheckpointMeta(meta) => checkpoint_meta_line(alloc, out, meta),
+        Action::Sidecar(sidecar) => sidecar_line(alloc, out, sidecar),
     }
 }
 
-/// Appends the line of an action to what `out` holds. What is said of another commit has none: a
-/// transaction speaks of its own (`append_own_info`). After an `Err` nothing is said of `out`.
+/// Appends the line of an action to what `out` holds. What is said of another commit has none, since
+/// a transaction speaks of its own (`append_own_info`), and neither has a file of changed rows, whose
+/// content isn't kept. After an `Err` nothing is said of `out`.
 pub fn append_action(alloc: Global, out: &mut Vec<u8>, action: &Action) -> Result<(), AllocError>
     ensures { OnOk result (out.new.items ≡ out.old.items ++ written_line action.now) }
 {
@@ -175,6 +273,34 @@ pub fn append_tombstone(
     removal_line(alloc, out, path, time, false)
 }
 
+/// Appends the line of what an application has recorded last to what `out` holds. After an `Err`
+/// nothing is said of `out`.
+pub fn append_application(
+    alloc: Global,
+    out: &mut Vec<u8>,
+    app_id: &str,
+    application: &Application,
+) -> Result<(), AllocError>
+    ensures { OnOk result (out.new.items ≡ out.old.items ++ line_of (Action.Txn
+        (record { app_id = app_id.now; version = application.now.version; last_updated = application.now.last_updated }))) }
+{
+    application_line(alloc, out, app_id, application)
+}
+
+/// Appends the line of a domain that stands, with its configuration, to what `out` holds. After an
+/// `Err` nothing is said of `out`.
+pub fn append_domain(
+    alloc: Global,
+    out: &mut Vec<u8>,
+    domain: &str,
+    configuration: &str,
+) -> Result<(), AllocError>
+    ensures { OnOk result (out.new.items ≡ out.old.items ++ line_of (Action.Domain
+        (record { domain = domain.now; configuration = configuration.now; removed = false }))) }
+{
+    settings_line(alloc, out, domain, configuration, false)
+}
+
 /// Appends the line in which a transaction speaks of its own commit to what `out` holds: its id, and
 /// the moment in milliseconds since 1970-01-01T00:00:00Z. After an `Err` nothing is said of `out`.
 pub fn append_own_info(
@@ -202,7 +328,8 @@ fn sound_line(alloc: Global, out: &mut Vec<u8>, action: &Action) -> Result<(), A
     action_line(alloc, out, action)
 }
 
-/// The text of the actions, one compact line each; what is said of other commits is left out.
+/// The text of the actions, one compact line each; what is said of other commits is left out, and so
+/// are files of changed rows.
 pub fn write_actions(alloc: Global, actions: &[Action]) -> Result<Vec<u8>, AllocError>
     ensures text { IfOk result (λ v. v.items ≡ text_of actions.now) }
     ensures sound { OnOk result (AllByRecursion IsSound actions.now) }
