@@ -17,7 +17,9 @@ use Rattle.dk_engine.specs.declared.refusal.Refusal.TheVariants as refusals
 use Rattle.dk_snapshot.specs.declared.snapshot.Snapshot.{Snapshot}
 use Rattle.dk_snapshot.specs.Plan.{stands, greatest_below, first_failing, count_from, count_up_to, plan}
 use Rattle.dk_snapshot.specs.Log.{meant, commit_of_object, commit_at, newest_behind, commits_below, commits_planned}
-use Rattle.dk_snapshot.specs.Newest.{version_of, newest}
+use Rattle.dk_snapshot.specs.Opened.{with_cut, snapshot_of, version_of}
+use Rattle.dk_snapshot.specs.Opened as opening
+use Rattle.dk_snapshot.specs.Support.{cut_of}
 use Rattle.dk_lawful.specs.Managed.{is_managed, asks_for_catalogue}
 use Rattle.dk_lawful.specs.History.{history, commits_of, table}
 use Rattle.dk_lawful.specs.Laws.{IsWholeLog}
@@ -108,26 +110,25 @@ counted : (latest count : ℕ) (absent : Option ℕ) → count_up_to latest abse
 counted latest count None is = cc
 counted latest count (Some missing) is = cc
 
-whole_is : (version : ℕ) (state : TableState) (snapshot : Snapshot) (test : Bool) (refusal : Refusal) → (if test then Ok (record { version = version; state = state }) else Err refusal) ≡ Ok snapshot
-    → (snapshot.version ≡ version) × (snapshot.state ≡ state)
-whole_is version state snapshot true refusal is = (cc, cc)
-whole_is version state snapshot false refusal is = cc
+whole_is : (version : ℕ) (state : TableState) (snapshot : Snapshot) (cut : Result ℤ Refusal) → with_cut version state cut ≡ Ok snapshot → (snapshot.version ≡ version) × (snapshot.state ≡ state)
+whole_is version state snapshot (Ok cut) is = (cc, cc)
+whole_is version state snapshot (Err refusal) is = cc
 
-opened : (events : List Told) (latest : ℕ) (snapshot : Snapshot) → greatest_below (stands events) (2 ^ 63) ≡ Some latest → newest events ≡ Ok snapshot → Opened events latest snapshot
-opened events latest snapshot top is = by_plan (plan events) refl is
+opened : (events : List Told) (now : ℤ) (latest : ℕ) (snapshot : Snapshot) → greatest_below (stands events) (2 ^ 63) ≡ Some latest → opening.opened events None now ≡ Ok snapshot → Opened events latest snapshot
+opened events now latest snapshot top is = by_plan (plan events None) refl is
   where
-    by_log : (count : ℕ) (log : Result (List (List Action)) Refusal) → latest + 1 ≡ count → commits_below events count ≡ log → version_of log ≡ Ok snapshot → Opened events latest snapshot
+    by_log : (count : ℕ) (log : Result (List (List Action)) Refusal) → latest + 1 ≡ count → commits_below events count ≡ log → version_of now log ≡ Ok snapshot → Opened events latest snapshot
     by_log count (Err refusal) counts below opens = cc
     by_log count (Ok log) counts below opens =
-        let parts = whole_is (length log - 1) (fold log) snapshot (is_some (fold log).protocol && is_some (fold log).metadata) _ opens in
+        let parts = whole_is (length log - 1) (fold log) snapshot (cut_of (fold log) now) opens in
         let found : Reads events (latest + 1) log = subst (λ n. Reads events n log) (sym counts) (reads events count log below) in
         let long = found.long in
         record { log = log; reads = found; version = parts.0 ∙ (omega arith); state = parts.1 }
 
-    by_plan : (planned : Result ℕ Refusal) → plan events ≡ planned → version_of (commits_planned events planned) ≡ Ok snapshot → Opened events latest snapshot
+    by_plan : (planned : Result ℕ Refusal) → plan events None ≡ planned → version_of now (commits_planned events planned) ≡ Ok snapshot → Opened events latest snapshot
     by_plan (Err refusal) plans opens = cc
     by_plan (Ok count) plans opens =
-        let counts : count_from (stands events) (Some latest) ≡ Ok count = sym (ap (count_from (stands events)) top) ∙ plans in
+        let counts : count_from (stands events) None (Some latest) ≡ Ok count = sym (ap (count_from (stands events) None) top) ∙ plans in
         by_log count (commits_below events count) (counted latest count (first_failing (stands events) 0 (latest + 1)) counts) refl opens
 
 -- ---- what a commit comes after
@@ -143,14 +144,14 @@ pub record Started (events : List Told) (from : Start) : Type 0 where
   pub before : from.before ≡ fold log
   pub free : IsNone (object events (commit_path from.version))
 
-pub started : (events : List Told) (from : Start) → start events ≡ Ok from → Started events from
-started events from is = by (greatest_below (stands events) (2 ^ 63)) refl is
+pub started : (events : List Told) (now : ℤ) (from : Start) → start events now ≡ Ok from → Started events from
+started events now from is = by (greatest_below (stands events) (2 ^ 63)) refl is
   where
-    after : (latest : ℕ) (snapshot : Result Snapshot Refusal) → greatest_below (stands events) (2 ^ 63) ≡ Some latest → (latest == last_version) ≡ false → newest events ≡ snapshot
+    after : (latest : ℕ) (snapshot : Result Snapshot Refusal) → greatest_below (stands events) (2 ^ 63) ≡ Some latest → (latest == last_version) ≡ false → opening.opened events None now ≡ snapshot
         → after_snapshot snapshot ≡ Ok from → Started events from
     after latest (Err refusal) top last opens starts = cc
     after latest (Ok snapshot) top last opens starts =
-        let found = opened events latest snapshot top opens in
+        let found = opened events now latest snapshot top opens in
         let bound = top_of (stands events) (2 ^ 63) latest top in
         let less : latest < 2 ^ 63 = bound.below in
         let apart : latest ≡ last_version → ⊥ = λ same. true≢false (sym (eq-eqb latest last_version same) ∙ last) in
@@ -173,11 +174,11 @@ started events from is = by (greatest_below (stands events) (2 ^ 63)) refl is
         }
 
     at_last : (latest : ℕ) (test : Bool) → greatest_below (stands events) (2 ^ 63) ≡ Some latest → (latest == last_version) ≡ test
-        → (if test then Err (refusals.Limit limits.Version last_version) else after_snapshot (newest events)) ≡ Ok from → Started events from
+        → (if test then Err (refusals.Limit limits.Version last_version) else after_snapshot (opening.opened events None now)) ≡ Ok from → Started events from
     at_last latest true top last starts = cc
-    at_last latest false top last starts = after latest (newest events) top last refl starts
+    at_last latest false top last starts = after latest (opening.opened events None now) top last refl starts
 
-    by : (latest : Option ℕ) → greatest_below (stands events) (2 ^ 63) ≡ latest → start_after events latest ≡ Ok from → Started events from
+    by : (latest : Option ℕ) → greatest_below (stands events) (2 ^ 63) ≡ latest → start_after events now latest ≡ Ok from → Started events from
     by None top starts =
         let none = none_below (stands events) (2 ^ 63) top in
         let first : 0 ≡ from.version = cc in
@@ -201,10 +202,10 @@ supported (Some p) is = by (p.min_writer == 1) _ refl is
     by true name one is = writer_one_is_unmanaged (record empty_state { protocol = Some p }) one
     by false name one is = absurd (let no : ◌≡◌ {A = Option (List ℕ)} (Some name) None = is in cc)
 
-is_next : (events : List Told) (from : Start) (actions : List Action) (id : ℕ) → start events ≡ Ok from → unsupported from.before.protocol ≡ None
+is_next : (events : List Told) (now : ℤ) (from : Start) (actions : List Action) (id : ℕ) → start events now ≡ Ok from → unsupported from.before.protocol ≡ None
     → first_broken from.before from.version (own_commit id actions) ≡ None → ComesNext from.version (own_commit id actions) events
-is_next events from actions id is supports valid horizon lawful =
-    let begun = started events from is in
+is_next events now from actions id is supports valid horizon lawful =
+    let begun = started events now from is in
     let unmanaged : is_managed (fold begun.log) ≡ false = ap (λ s. is_managed s) (sym begun.before) ∙ supported from.before.protocol supports in
     let same : begun.log ≡ commits_of (history events) = read_history events horizon begun.log lawful begun.is unmanaged in
     let state : from.before ≡ table events = begun.before ∙ ap fold same in
@@ -220,19 +221,19 @@ pub record Next (events : List Told) (actions : List Action) (id : ℕ) (writing
   pub comes : ComesNext writing.0 (own_commit id actions) events
 
 pub attempt_next : (events : List Told) (actions : List Action) (now : ℤ) (id : ℕ) (writing : Writing) → attempt events actions now id ≡ Ok writing → Next events actions id writing
-attempt_next events actions now id writing is = by (start events) refl is
+attempt_next events actions now id writing is = by (start events now) refl is
   where
-    by_verdict : (from : Start) (name : Option (List ℕ)) (broken : Option ℕ) → start events ≡ Ok from → unsupported from.before.protocol ≡ name
+    by_verdict : (from : Start) (name : Option (List ℕ)) (broken : Option ℕ) → start events now ≡ Ok from → unsupported from.before.protocol ≡ name
         → first_broken from.before from.version (own_commit id actions) ≡ broken → if_allowed (verdict name broken) (from.version, commit_text id now actions) ≡ Ok writing → Next events actions id writing
     by_verdict from (Some name) broken starts supports rules meant = cc
     by_verdict from None (Some rule) starts supports rules meant = cc
     by_verdict from None None starts supports rules meant =
         let at : from.version ≡ writing.0 = cc in
         record {
-          free = subst (λ v. IsNone (object events (commit_path v))) at ((started events from starts).free);
-          comes = subst (λ v. ComesNext v (own_commit id actions) events) at (is_next events from actions id starts supports rules);
+          free = subst (λ v. IsNone (object events (commit_path v))) at ((started events now from starts).free);
+          comes = subst (λ v. ComesNext v (own_commit id actions) events) at (is_next events now from actions id starts supports rules);
         }
 
-    by : (begun : Result Start Refusal) → start events ≡ begun → attempt_from begun actions now id ≡ Ok writing → Next events actions id writing
+    by : (begun : Result Start Refusal) → start events now ≡ begun → attempt_from begun actions now id ≡ Ok writing → Next events actions id writing
     by (Err refusal) starts meant = cc
     by (Ok from) starts meant = by_verdict from (unsupported from.before.protocol) (first_broken from.before from.version (own_commit id actions)) starts refl refl meant

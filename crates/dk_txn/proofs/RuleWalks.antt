@@ -1,5 +1,5 @@
 -- The rules by their tests.
-use Rattle.std.proofs.Common.{◌≡◌, ℕ, zero, suc, ◌+◌, ◌<◌, ◌≤◌, List, [], ◌∷◌, Bool, true, false, cond, Some, None, refl, ap, sym, subst, ◌∙◌, true≢false, drop, length, get_or, nat_cmp}
+use Rattle.std.proofs.Common.{◌≡◌, ℕ, zero, suc, ◌+◌, ◌<◌, ◌≤◌, List, [], ◌∷◌, Bool, true, false, cond, Some, None, refl, ap, sym, subst, ◌∙◌, true≢false, drop, length, get_or, nat_cmp, arith}
 use Rattle.std.specs.Prelude.{◌==◌, ◌&&◌, ◌||◌, not, nat_le, Option}
 use Rattle.std.specs.Borrow.{Bor}
 use Rattle.std.specs.declared.cmp.Ordering.{Ordering}
@@ -9,7 +9,7 @@ use Rattle.std.specs.BTreeMap.{is_at}
 use Rattle.std.specs.BTreeSet.{BTreeSet, contains, Updates}
 use Rattle.std.specs.List.{list_any, list_all, filter_map}
 use Rattle.std.specs.Str.{bytes_eq}
-use Rattle.std.proofs.lemmas.Bool.{eqb-true}
+use Rattle.std.proofs.lemmas.Bool.{eqb-true, leb-true}
 use Rattle.std.proofs.Math.ListN.{drop_of_length-le}
 use Rattle.std.proofs.lemmas.List.{drop_more}
 use Rattle.std.proofs.lemmas.Map.Text.{is_eq-slice_cmp}
@@ -89,8 +89,15 @@ never : (b : Bool) → (b && false) ≡ false
 never true = refl
 never false = refl
 
+none_less : (n : ℕ) (b : Bool) → (nat_le (suc (suc n)) 1 && b) ≡ false
+none_less n b = by (nat_le (suc (suc n)) 1) refl
+  where
+    by : (test : Bool) → nat_le (suc (suc n)) 1 ≡ test → (test && b) ≡ false
+    by true is = let most : suc (suc n) ≤ 1 = leb-true (suc (suc n)) 1 is in absurd (omega arith)
+    by false is = refl
+
 -- behind the commit's own line there is no other, and none of the kinds that are never committed
-kinds_split : (actions : List Action) → (nat_le (length (filter_map info_in actions)) 0 && list_all may_be_committed actions) ≡ list_all stands_behind_own actions
+kinds_split : (actions : List Action) → (nat_le (suc (length (filter_map info_in actions))) 1 && list_all may_be_committed actions) ≡ list_all stands_behind_own actions
 kinds_split [] = refl
 kinds_split (action.Protocol p ∷ actions) = kinds_split actions
 kinds_split (action.Metadata m ∷ actions) = kinds_split actions
@@ -98,10 +105,10 @@ kinds_split (action.Add f ∷ actions) = kinds_split actions
 kinds_split (action.Remove r ∷ actions) = kinds_split actions
 kinds_split (action.Txn t ∷ actions) = kinds_split actions
 kinds_split (action.Domain d ∷ actions) = kinds_split actions
-kinds_split (action.Info i ∷ actions) = refl
-kinds_split (action.Cdc ∷ actions) = never (nat_le (length (filter_map info_in actions)) 0)
-kinds_split (action.CheckpointMeta m ∷ actions) = never (nat_le (length (filter_map info_in actions)) 0)
-kinds_split (action.Sidecar r ∷ actions) = never (nat_le (length (filter_map info_in actions)) 0)
+kinds_split (action.Info i ∷ actions) = none_less (length (filter_map info_in actions)) (list_all may_be_committed actions)
+kinds_split (action.Cdc ∷ actions) = never (nat_le (suc (length (filter_map info_in actions))) 1)
+kinds_split (action.CheckpointMeta m ∷ actions) = never (nat_le (suc (length (filter_map info_in actions))) 1)
+kinds_split (action.Sidecar r ∷ actions) = never (nat_le (suc (length (filter_map info_in actions))) 1)
 
 pub kinds_of_own : (txn_id : List ℕ) (actions : List Action) → keeps_kinds (own_info txn_id ∷ actions) ≡ list_all stands_behind_own actions
 kinds_of_own txn_id actions = kinds_split actions

@@ -8,7 +8,7 @@ use Rattle.dk_engine.specs.declared.limits.Which.TheVariants as limits
 use Rattle.dk_engine.specs.declared.refusal.Refusal.{Refusal}
 use Rattle.dk_engine.specs.declared.refusal.Refusal.TheVariants as refusals
 use Rattle.dk_engine.specs.Answers.{Refuses, Gives}
-use Rattle.dk_engine.proofs.Refused.{refused_by_part}
+use Rattle.dk_engine.proofs.Refused.{refused_by_part, gives_same}
 use Rattle.dk_snapshot.specs.declared.snapshot.Snapshot.{Snapshot}
 use Rattle.dk_snapshot.specs.Plan.{stands}
 use Rattle.dk_snapshot.specs.Versions.{greatest}
@@ -54,21 +54,21 @@ goes_on : (events : List Told) (now : ℤ) (versions : List ℕ) (latest : Optio
 goes_on events now versions latest version small lists is some last =
     starts_as events now versions latest small lists is ∙ ap (start_after events now) some ∙ not_chosen (version == last_version) (Err (refusals.Limit limits.Version last_version)) (after_snapshot (opened events None now)) last
 
-pub start_refused : (told : Option (List Told)) (now : ℤ) (versions : List ℕ) (latest : Option ℕ) (version : ℕ) (refusal : Refusal) → AreSmall versions → latest ≡ greatest versions → latest ≡ Some version
-    → (version == last_version) ≡ false → IfSome told (λ events. ListsVersions events versions → Refuses refusal (opened events None now))
+pub start_refused : (told : Option (List Told)) (now passed : ℤ) → passed ≡ now → (versions : List ℕ) (latest : Option ℕ) (version : ℕ) (refusal : Refusal) → AreSmall versions → latest ≡ greatest versions → latest ≡ Some version
+    → (version == last_version) ≡ false → IfSome told (λ events. ListsVersions events versions → Refuses refusal (opened events None passed))
     → IfSome told (λ events. ListsVersions events versions → Refuses refusal (start events now))
-start_refused None now versions latest version refusal small is some last means = tt
-start_refused (Some events) now versions latest version refusal small is some last means = λ lists.
+start_refused None now passed same versions latest version refusal small is some last means = tt
+start_refused (Some events) now passed same versions latest version refusal small is some last means = λ lists.
     subst (λ (meant : Result Start Refusal). Refuses refusal meant) (sym (goes_on events now versions latest version small lists is some last))
-    (refused_by_part after_snapshot (λ r. refl) refusal (opened events None now) (means lists))
+    (refused_by_part after_snapshot (λ r. refl) refusal (opened events None now) (subst (λ n. Refuses refusal (opened events None n)) same (means lists)))
 
-pub start_opened : (told : Option (List Told)) (now : ℤ) (versions : List ℕ) (latest : Option ℕ) (version : ℕ) (snapshot : Snapshot) (from : Start) → AreSmall versions → latest ≡ greatest versions
+pub start_opened : (told : Option (List Told)) (now passed : ℤ) → passed ≡ now → (versions : List ℕ) (latest : Option ℕ) (version : ℕ) (snapshot : Snapshot) (from : Start) → AreSmall versions → latest ≡ greatest versions
     → latest ≡ Some version → (version == last_version) ≡ false → from.version ≡ snapshot.version + 1 → from.before ≡ snapshot.state
-    → IfSome told (λ events. ListsVersions events versions → opened events None now ≡ Ok snapshot)
+    → IfSome told (λ events. ListsVersions events versions → opened events None passed ≡ Ok snapshot)
     → IfSome told (λ events. ListsVersions events versions → start events now ≡ Ok from)
-start_opened None now versions latest version snapshot from small is some last next before opens = tt
-start_opened (Some events) now versions latest version snapshot from small is some last next before opens = λ lists.
-    goes_on events now versions latest version small lists is some last ∙ ap after_snapshot (opens lists)
+start_opened None now passed same versions latest version snapshot from small is some last next before opens = tt
+start_opened (Some events) now passed same versions latest version snapshot from small is some last next before opens = λ lists.
+    goes_on events now versions latest version small lists is some last ∙ ap after_snapshot (ap (opened events None) (sym same) ∙ opens lists)
     ∙ ap₂ from_parts (sym next) (sym before)
 
 -- a survey is refused by the store or by want of memory alone
@@ -82,11 +82,11 @@ survey_refused None now refusal found = tt
 survey_refused (Some events) now refusal found = refused_survey events now refusal found
 
 -- what is begun from the versions that a survey found is what a commit comes after
-pub survey_started : {X : Type 0} (view : X → Start) (told mid : Option (List Told)) (now : ℤ) (versions lent : List ℕ) (result : Result X Refusal) → lent ≡ versions → mid ≡ told
+pub survey_started : {X : Type 0} (view : X → Start) (told mid : Option (List Told)) (now passed : ℤ) → passed ≡ now → (versions lent : List ℕ) (result : Result X Refusal) → lent ≡ versions → mid ≡ told
     → IfSome told (λ events. ListsVersions events versions)
-    → IfSome mid (λ events. ListsVersions events lent → Gives view result (start events now))
+    → IfSome mid (λ events. ListsVersions events lent → Gives view result (start events passed))
     → IfSome told (λ events. Gives view result (start events now))
-survey_started view None mid now versions lent result same still found starts = tt
-survey_started view (Some events) mid now versions lent result same still found starts =
-    let here : ListsVersions events lent → Gives view result (start events now) = rw still at starts in
-    here (rw same found)
+survey_started view None mid now passed moment versions lent result same still found starts = tt
+survey_started view (Some events) mid now passed moment versions lent result same still found starts =
+    let here : ListsVersions events lent → Gives view result (start events passed) = rw still at starts in
+    gives_same view result (start events passed) (start events now) (ap (start events) moment) (here (rw same found))

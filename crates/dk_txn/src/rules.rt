@@ -1,8 +1,9 @@
 //! The rules of a commit that are kept so far.
 ghost use Rattle.std.specs.Prelude.{◌≡◌, ℕ, List, ◌∷◌, IfOk, length, option_map};
-ghost use Rattle.std.specs.List.{filter_map};
+ghost use Rattle.std.specs.List.{filter_map, list_all};
+ghost use Rattle.dk_txn.specs.Walks.{stands_behind_own};
 ghost use Rattle.dk_model.specs.ReadBack.{own_info};
-ghost use Rattle.dk_lawful.specs.Rules.{protocol_in, metadata_in, info_in, file_path_in, is_count_allowed, keeps_heads, keeps_kinds, keeps_paths_apart, has_first_form, is_not_lower, keeps_protocol, is_written, keeps_writer, is_plain_add, keeps_adds, first_broken};
+ghost use Rattle.dk_lawful.specs.Rules.{protocol_in, metadata_in, file_path_in, is_count_allowed, keeps_heads, keeps_kinds, keeps_paths_apart, has_first_form, is_not_lower, keeps_protocol, is_written, keeps_writer, is_plain_add, keeps_adds, first_broken};
 
 use dk_model::{Action, Protocol, TableState, Text};
 use std::alloc::{AllocError, Global};
@@ -45,16 +46,32 @@ fn keeps_heads(version: u64, actions: &[Action]) -> bool
         && is_count_allowed(version, count_metadata(actions))
 }
 
-/// Whether there is no commitInfo beside the commit's own, and none of cdc, checkpointMetadata and sidecar.
-fn keeps_kinds(actions: &[Action]) -> bool
-    ensures { (txn_id : List ℕ) → result ≡ keeps_kinds (own_info txn_id ∷ actions.now) }
+/// Whether an action may stand behind the line in which a commit speaks of itself.
+fn stands_behind_own(action: &Action) -> bool
+    ensures { result ≡ stands_behind_own action.now }
+{
+    match action {
+        Action::Info(_) | Action::Cdc | Action::CheckpointMeta(_) | Action::Sidecar(_) => false,
+        _ => true,
+    }
+}
+
+fn all_stand_behind_own(actions: &[Action]) -> bool
+    ensures { result ≡ list_all stands_behind_own actions.now }
 {
     for action in actions {
-        if let Action::Info(_) | Action::Cdc | Action::CheckpointMeta(_) | Action::Sidecar(_) = action {
+        if !stands_behind_own(action) {
             return false;
         }
     }
     true
+}
+
+/// Whether there is no commitInfo beside the commit's own, and none of cdc, checkpointMetadata and sidecar.
+fn keeps_kinds(actions: &[Action]) -> bool
+    ensures { (txn_id : List ℕ) → result ≡ keeps_kinds (own_info txn_id ∷ actions.now) }
+{
+    all_stand_behind_own(actions)
 }
 
 /// The path of a file action.

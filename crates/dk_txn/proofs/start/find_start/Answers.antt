@@ -1,3 +1,5 @@
+use Rattle.std.proofs.lemmas.Int.{to_z-of_z}
+use mir.Syntax.{w64}
 use Rattle.dk_txn.specs.declared.start.Start.{Start}
 use Rattle.dk_txn.proofs.Starts.{survey_refused, survey_started}
 use Rattle.dk_txn.proofs.start.find_start.Goals as goal
@@ -6,4 +8,4 @@ pub returns-in-Err-clause-means : goal.returns-in-Err-clause-means
 returns-in-Err-clause-means g c = survey_refused _ _ _ c.in-Err.ensures.found
 
 pub returns-in-Ok-clause-means : goal.returns-in-Ok-clause-means
-returns-in-Ok-clause-means g c = survey_started {X = Start} (λ from. from) _ _ _ _ _ c.start_listed.result c.deref.ensures.value c.in-Ok.ensures.same c.in-Ok.ensures.found c.start_listed.ensures.means
+returns-in-Ok-clause-means g c = survey_started {X = Start} (λ from. from) _ _ c.args.now _ (to_z-of_z w64 c.args.now c.ranges.now) _ _ c.start_listed.result c.deref.ensures.value c.in-Ok.ensures.same c.in-Ok.ensures.found c.start_listed.ensures.means

@@ -1,3 +1,5 @@
+use Rattle.std.proofs.lemmas.Int.{to_z-of_z}
+use mir.Syntax.{w64}
 use Rattle.std.proofs.Common.{rules}
 use Rattle.dk_txn.proofs.Starts.{start_none, start_last, start_refused, start_opened}
 use Rattle.dk_txn.proofs.start.start_listed.Goals as goal
@@ -9,7 +11,7 @@ pub returns-then-latest-eq-MAX_VERSION-clause-means : goal.returns-then-latest-e
 returns-then-latest-eq-MAX_VERSION-clause-means g c = start_last _ _ c.args.versions.now c.latest.result c.in-Some.latest c.requires c.latest.ensures.value c.in-Some.is (search rules)
 
 pub returns-in-Err-clause-means : goal.returns-in-Err-clause-means
-returns-in-Err-clause-means g c = start_refused _ _ c.args.versions.now c.latest.result c.in-Some.latest c.in-Err.refusal c.requires c.latest.ensures.value c.in-Some.is (search rules) c.in-Err.ensures.means
+returns-in-Err-clause-means g c = start_refused _ c.args.now _ (to_z-of_z w64 c.args.now c.ranges.now) c.args.versions.now c.latest.result c.in-Some.latest c.in-Err.refusal c.requires c.latest.ensures.value c.in-Some.is (search rules) c.in-Err.ensures.means
 
 pub returns-in-Ok-clause-means : goal.returns-in-Ok-clause-means
-returns-in-Ok-clause-means g c = start_opened _ _ c.args.versions.now c.latest.result c.in-Some.latest c.in-Ok.snapshot c.after.result c.requires c.latest.ensures.value c.in-Some.is (search rules) c.after.ensures.version c.after.ensures.before c.in-Ok.ensures.means
+returns-in-Ok-clause-means g c = start_opened _ c.args.now _ (to_z-of_z w64 c.args.now c.ranges.now) c.args.versions.now c.latest.result c.in-Some.latest c.in-Ok.snapshot c.after.result c.requires c.latest.ensures.value c.in-Some.is (search rules) c.after.ensures.version c.after.ensures.before c.in-Ok.ensures.means
