@@ -1,48 +1,45 @@
 -- Over a whole log, what `show` gives is the text of the fold.
-use Rattle.std.proofs.Common.{◌≡◌, ℕ, ℤ, ◌-◌, List, length, refl, ap, ◌∙◌}
+use Rattle.std.proofs.Common.{◌≡◌, ℕ, ℤ, ◌+◌, List, take, refl, ap, sym, ◌∙◌}
 use Rattle.std.specs.Prelude.{Option, Some, None, Result, Ok, IfSome}
 use Rattle.dk_store.specs.Told.{Told}
 use Rattle.dk_model.specs.declared.action.Action.{Action}
-use Rattle.dk_model.specs.declared.action.Protocol.{Protocol}
-use Rattle.dk_model.specs.declared.action.Metadata.{Metadata}
 use Rattle.dk_model.specs.State.{fold}
 use Rattle.dk_engine.specs.declared.refusal.Refusal.{Refusal}
 use Rattle.dk_engine.specs.declared.refusal.Refusal.TheVariants as refusals
-use Rattle.dk_snapshot.specs.History.{IsLog}
-use Rattle.dk_snapshot.proofs.History.{newest_is}
+use Rattle.dk_snapshot.specs.History.{IsLog, AsksFor}
+use Rattle.dk_snapshot.specs.Support.{IsRead, cut_before}
+use Rattle.dk_snapshot.specs.Opened.{with_cut}
+use Rattle.dk_snapshot.proofs.History.{opened_is, cut_is}
 use Rattle.dk_cli.specs.declared.status.Status.{Status}
 use Rattle.dk_cli.specs.declared.status.Status.TheVariants as statuses
 use Rattle.dk_cli.specs.Show.{show, text_of_opened}
 use Rattle.dk_cli.specs.Shown.{shown}
 use Rattle.dk_cli.specs.Run.{Answers}
-use Rattle.dk_cli.specs.History.{Shows}
+use Rattle.dk_cli.specs.History.{Shows, ShowsLog}
 
 answers_shows : (told : Result (List ℕ) Refusal) (text : List ℕ) (old new : Option (List ℕ)) (status : Status) → told ≡ Ok text → Answers told old status new → Shows text old status new
 answers_shows told text old new statuses.Done e (t, m, n) = let same : t ≡ text = cc in rw (← same) n
 answers_shows told text old new statuses.SinkFault e (t, c, m, n) = let same : t ≡ text = cc in (c, rw (← same) n)
 answers_shows told text old new (statuses.Refused refusals.Store) e h = h.1
 answers_shows told text old new (statuses.Refused refusals.OutOfMemory) e h = h.1
-answers_shows told text old new (statuses.Refused (refusals.Missing path)) e h = let m = h.0 in cc
-answers_shows told text old new (statuses.Refused (refusals.Unsupported name)) e h = let m = h.0 in cc
-answers_shows told text old new (statuses.Refused (refusals.Damaged path place)) e h = let m = h.0 in cc
-answers_shows told text old new (statuses.Refused (refusals.Limit which value)) e h = let m = h.0 in cc
-answers_shows told text old new (statuses.Refused (refusals.Invalid rule)) e h = let m = h.0 in cc
 answers_shows told text old new (statuses.Refused (refusals.Taken path)) e h = absurd h.0
+answers_shows told text old new (statuses.Refused refusal) e h = let m = h.0 in cc
 answers_shows told text old new statuses.Usage e h = h
 answers_shows told text old new statuses.SourceFault e h = h
 
--- the text of a log that has both a protocol and metadata
-show_log : (events : List Told) (log : List (List Action)) (protocol : Protocol) (metadata : Metadata) (cut : ℤ) → IsLog events log
-    → (fold log).protocol ≡ Some protocol → (fold log).metadata ≡ Some metadata → show events cut ≡ Ok (shown (length log - 1) (fold log) cut)
-show_log events log protocol metadata cut is p m = ap (text_of_opened cut) (newest_is events log is) ∙ rw (p, m) refl
+-- the text of a version of a log, where it is one that is read
+show_log : (events : List Told) (at : Option ℕ) (now : ℤ) (log : List (List Action)) (version : ℕ) (kept : ℤ) → IsLog events log → AsksFor at log version → IsRead (fold (take (version + 1) log)) kept
+    → show events at now ≡ Ok (shown version (fold (take (version + 1) log)) (cut_before now kept))
+show_log events at now log version kept is asks read =
+    ap text_of_opened (opened_is events log at version now is asks)
+    ∙ ap (λ cut. text_of_opened (with_cut version (fold (take (version + 1) log)) cut)) (cut_is (fold (take (version + 1) log)) kept now read)
 
 -- the program's answer over a store that tells a whole log
-pub whole_log : (told : Option (List Told)) (cut passed : ℤ) (old new : Option (List ℕ)) (status : Status)
-    → passed ≡ cut
-    → IfSome told (λ events. Answers (show events passed) old status new)
-    → IfSome told (λ events. (log : List (List Action)) (protocol : Protocol) (metadata : Metadata) → IsLog events log
-    → (fold log).protocol ≡ Some protocol → (fold log).metadata ≡ Some metadata
-    → Shows (shown (length log - 1) (fold log) cut) old status new)
-whole_log None cut passed old new status same h = tt
-whole_log (Some events) cut passed old new status same h = λ log protocol metadata is p m.
-    answers_shows (show events passed) (shown (length log - 1) (fold log) cut) old new status (ap (show events) same ∙ show_log events log protocol metadata cut is p m) h
+pub whole_log : (told : Option (List Told)) (asked : Option (Option ℕ)) (given at : Option ℕ) (now passed : ℤ) (old new : Option (List ℕ)) (status : Status) → asked ≡ Some given → asked ≡ Some at → passed ≡ now
+    → IfSome told (λ events. Answers (show events given passed) old status new) → IfSome told (λ events. ShowsLog events at now old status new)
+whole_log None asked given at now passed old new status one other same h = tt
+whole_log (Some events) asked given at now passed old new status one other same h = λ log version kept is asks read.
+    let alike : ◌≡◌ {A = Option (Option ℕ)} (Some given) (Some at) = sym one ∙ other in
+    let version_asked : given ≡ at = cc in
+    answers_shows (show events given passed) (shown version (fold (take (version + 1) log)) (cut_before now kept)) old new status
+    (ap (show events given) same ∙ ap (λ a. show events a now) version_asked ∙ show_log events at now log version kept is asks read) h

@@ -1,7 +1,7 @@
-pub mod Committing
 pub mod FaultTexts
 pub mod History
 pub mod Pieces
 pub mod Shown
 pub mod Inputs
 pub mod Scans
+pub mod Versions

@@ -17,7 +17,7 @@ abbrev pub one_past : Limits → Which → ℕ
 one_past limits which.Input = limits.input + 1
 one_past limits which.InputLine = limits.line + 1
 one_past limits which.InputLines = limits.lines + 1
-one_past limits which.Version = 0
+one_past limits _ = 0
 
 -- the path of the input in a refusal
 abbrev pub input_path : List ℕ

@@ -32,13 +32,7 @@ WritesSome meant events later = (version : ℕ) × Writes meant events version l
 -- Want of memory may come after the commit, at its answer; else a refusal did what it does to a commit.
 abbrev pub EndsRefused : Refusal → Result Writing Refusal → List Told → Option (List Told) → Type 0
 EndsRefused refusals.OutOfMemory meant events later = (later ≡ Some events) ⊎ WritesSome meant events later
-EndsRefused refusals.Store meant events later = CommitRefuses refusals.Store meant events later
-EndsRefused (refusals.Missing path) meant events later = CommitRefuses (refusals.Missing path) meant events later
-EndsRefused (refusals.Unsupported name) meant events later = CommitRefuses (refusals.Unsupported name) meant events later
-EndsRefused (refusals.Damaged path place) meant events later = CommitRefuses (refusals.Damaged path place) meant events later
-EndsRefused (refusals.Limit which value) meant events later = CommitRefuses (refusals.Limit which value) meant events later
-EndsRefused (refusals.Invalid rule) meant events later = CommitRefuses (refusals.Invalid rule) meant events later
-EndsRefused (refusals.Taken path) meant events later = CommitRefuses (refusals.Taken path) meant events later
+EndsRefused refusal meant events later = CommitRefuses refusal meant events later
 
 -- With Done the commit stands and the sink took the line of its version; with SinkFault it stands and the sink took a beginning of that.
 abbrev pub CommitEnds : Result Writing Refusal → List Told → Option (List ℕ) → Status → Option (List ℕ) → Option (List Told) → Type 0

@@ -1,6 +1,12 @@
 -- What the promise on `show` wants of an answer.
-use Rattle.std.specs.Prelude.{ℕ, ◌≡◌, List, Option, take}
+use Rattle.std.specs.Prelude.{ℕ, ℤ, ◌≡◌, ◌+◌, List, Option, take}
+use Rattle.dk_store.specs.Told.{Told}
 use Rattle.dk_store.specs.Stream.{more}
+use Rattle.dk_model.specs.declared.action.Action.{Action}
+use Rattle.dk_model.specs.State.{fold}
+use Rattle.dk_snapshot.specs.History.{IsLog, AsksFor}
+use Rattle.dk_snapshot.specs.Support.{IsRead, cut_before}
+use Rattle.dk_cli.specs.Shown.{shown}
 use Rattle.dk_engine.specs.declared.refusal.Refusal.TheVariants as refusals
 use Rattle.dk_cli.specs.declared.status.Status.{Status}
 use Rattle.dk_cli.specs.declared.status.Status.TheVariants as statuses
@@ -11,11 +17,12 @@ Shows text old statuses.Done new = new ≡ more old text
 Shows text old statuses.SinkFault new = (count : ℕ) × (new ≡ more old (take count text))
 Shows text old (statuses.Refused refusals.Store) new = new ≡ old
 Shows text old (statuses.Refused refusals.OutOfMemory) new = new ≡ old
-Shows text old (statuses.Refused (refusals.Missing path)) new = ⊥
-Shows text old (statuses.Refused (refusals.Unsupported name)) new = ⊥
-Shows text old (statuses.Refused (refusals.Damaged path place)) new = ⊥
-Shows text old (statuses.Refused (refusals.Limit which value)) new = ⊥
-Shows text old (statuses.Refused (refusals.Invalid rule)) new = ⊥
-Shows text old (statuses.Refused (refusals.Taken path)) new = ⊥
+Shows text old (statuses.Refused refusal) new = ⊥
 Shows text old statuses.Usage new = ⊥
 Shows text old statuses.SourceFault new = ⊥
+
+-- Over a log of commits, of which the asked version is one that is read, the answer shows the fold of the commits up to it.
+abbrev pub ShowsLog : List Told → Option ℕ → ℤ → Option (List ℕ) → Status → Option (List ℕ) → Type 0
+ShowsLog events at now old status new =
+    (log : List (List Action)) (version : ℕ) (kept : ℤ) → IsLog events log → AsksFor at log version → IsRead (fold (take (version + 1) log)) kept
+    → Shows (shown version (fold (take (version + 1) log)) (cut_before now kept)) old status new

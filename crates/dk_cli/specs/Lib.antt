@@ -1,5 +1,6 @@
 pub mod Fault
 pub mod History
+pub mod Words
 pub mod Run
 pub mod Show
 pub mod Shown

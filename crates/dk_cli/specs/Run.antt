@@ -1,22 +1,23 @@
 -- What the program's answer owes to the meaning of its command.
-use Rattle.std.specs.Prelude.{ℕ, ◌≡◌, List, [], ◌∷◌, Option, Result, Ok, take, map, string_bytes, codes, String}
+use Rattle.std.specs.Prelude.{ℕ, ◌≡◌, true, false, List, Option, Some, None, Result, Ok, take, String}
 use Rattle.std.specs.Global.{Global}
 use Rattle.dk_store.specs.Stream.{more}
+use Rattle.dk_cli.specs.Words.{words_of, show_of, is_commit}
 use Rattle.dk_cli.specs.declared.status.Status.{Status}
 use Rattle.dk_cli.specs.declared.status.Status.TheVariants as statuses
 use Rattle.dk_engine.specs.declared.refusal.Refusal.{Refusal}
 use Rattle.dk_engine.specs.Answers.{Refuses}
 
--- the command line, by its bytes
-abbrev pub words_of : List (String Global) → List (List ℕ)
-words_of words = map string_bytes words
-
--- the commands of by now, each of one word
-abbrev pub IsShow : List (String Global) → Type 0
-IsShow words = words_of words ≡ codes "show" ∷ []
+-- the words ask `show` for this version, or for the latest one
+abbrev pub AsksShow : List (String Global) → Option ℕ → Type 0
+AsksShow words at = show_of (words_of words) ≡ Some at
 
 abbrev pub IsCommit : List (String Global) → Type 0
-IsCommit words = words_of words ≡ codes "commit" ∷ []
+IsCommit words = is_commit (words_of words) ≡ true
+
+-- the words are no command
+abbrev pub IsNoCommand : List (String Global) → Type 0
+IsNoCommand words = (show_of (words_of words) ≡ None) × (is_commit (words_of words) ≡ false)
 
 -- With Done the sink took the text that is meant, with SinkFault a beginning of it; a refusal is the meaning's, and then nothing was written.
 abbrev pub Answers : Result (List ℕ) Refusal → Option (List ℕ) → Status → Option (List ℕ) → Type 0

@@ -7,6 +7,7 @@ use Rattle.serde_json.specs.Written.{compact_text}
 use Rattle.dk_model.specs.declared.action.AddFile.{AddFile}
 use Rattle.dk_model.specs.declared.action.Action.{Action}
 use Rattle.dk_model.specs.declared.action.Action.TheVariants as actions
+use Rattle.dk_model.specs.declared.state.Application.{Application}
 use Rattle.dk_model.specs.declared.state.TableState.{TableState}
 use Rattle.dk_model.specs.Shown.{object_with}
 use Rattle.dk_model.specs.Written.{text_of}
@@ -39,6 +40,18 @@ head_text version state =
 abbrev pub file_actions : TableState → ℤ → List Action
 file_actions state cut = map live (maps.entries state.files) ++ map removal (filter (is_unexpired cut) (maps.entries state.tombstones))
 
+-- what an application has recorded, as an action
+abbrev pub recorded : List ℕ × Application → Action
+recorded application = actions.Txn (record { app_id = application.0; version = application.1.version; last_updated = application.1.last_updated })
+
+-- a domain as an action
+abbrev pub configured : List ℕ × List ℕ → Action
+configured domain = actions.Domain (record { domain = domain.0; configuration = domain.1; removed = false })
+
+-- the applications by name, then the domains by name
+abbrev pub named_actions : TableState → List Action
+named_actions state = map recorded (maps.entries state.applications) ++ map configured (maps.entries state.domains)
+
 -- the text of a version with this state
 abbrev pub shown : ℕ → TableState → ℤ → List ℕ
-shown version state cut = head_text version state ++ text_of (file_actions state cut)
+shown version state cut = head_text version state ++ (text_of (file_actions state cut) ++ text_of (named_actions state))

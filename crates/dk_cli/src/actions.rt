@@ -1,9 +1,8 @@
 //! The actions of the program's input, one a line.
-ghost use Rattle.std.specs.Prelude.{◌≡◌, ◌≤◌, ◌<◌, ◌^◌, [], List, ℕ, Err, IfErr, IfOk, IfSome, OnOk};
+ghost use Rattle.std.specs.Prelude.{◌≡◌, ◌≤◌, ◌<◌, ◌^◌, [], List, ℕ, Err, IfErr, IfSome, OnOk};
 ghost use Rattle.dk_store.specs.Causes.{Rose};
 ghost use Rattle.dk_model.specs.CommitText.{reading_of};
 ghost use Rattle.dk_engine.specs.Answers.{Gives};
-ghost use Rattle.dk_txn.specs.Commits.{ArePlain};
 ghost use Rattle.dk_cli.specs.Actions.{actions_of, one_past, read_actions, IsEnding, TakesActions};
 ghost use Rattle.dk_cli.specs.Reading.{StopsReading};
 
@@ -25,14 +24,13 @@ fn one_past(limits: Limits, which: Which) -> u64
         Which::Input => limits.input + 1,
         Which::InputLine => limits.line + 1,
         Which::InputLines => limits.lines + 1,
-        Which::Version => 0,
+        Which::Version | Which::Object | Which::Rows | Which::Time => 0,
     }
 }
 
 /// The actions of these bytes.
 fn read_bytes(alloc: Global, json: &mut dyn JsonHandler, bytes: &[u8]) -> Result<Commit, Refusal>
     ensures means { Gives (λ commit. commit) result (read_actions (reading_of bytes.now)) }
-    ensures plain { IfOk result (λ commit. ArePlain commit) }
     ensures store { result ≡ Err Refusal.Store → ⊥ }
     ensures taken { (path : List ℕ) → result ≡ Err (Refusal.Taken path) → ⊥ }
 {
@@ -78,7 +76,6 @@ pub(crate) fn take_actions<I: Source>(
     requires line { limits.line < 2 ^ 62 }
     requires lines { limits.lines < 2 ^ 62 }
     ensures means { IfSome (I.left input.old) (λ left. TakesActions result (actions_of limits left)) }
-    ensures plain { IfOk result (λ commit. ArePlain commit) }
     ensures at_end { OnOk result (IfSome (I.left input.new) (λ left. left ≡ [])) }
     ensures source { result ≡ Err Status.SourceFault → Rose (I.source_faults input.old) (I.source_faults input.new) }
     ensures later { I.source_faults input.old ≤ I.source_faults input.new }

@@ -1,12 +1,12 @@
 //! The command `commit`: the actions of the input become the next version.
-ghost use Rattle.std.specs.Prelude.{◌≡◌, ◌≤◌, [], ℕ, List, Err, IfOk, IfErr, IfSome, OnOk, is_some};
+ghost use Rattle.std.specs.Prelude.{◌≡◌, ◌≤◌, [], ℕ, List, Err, IfErr, IfSome, OnOk, is_some};
 ghost use Rattle.dk_store.specs.Causes.{Rose};
 ghost use Rattle.dk_model.specs.declared.action.Action.{Action};
 ghost use Rattle.dk_engine.specs.Held.{held};
 ghost use Rattle.dk_engine.specs.Usual.{AreWithin};
 ghost use Rattle.dk_lawful.specs.Kept.{KeepsLawful};
 ghost use Rattle.dk_txn.specs.Attempt.{attempt};
-ghost use Rattle.dk_txn.specs.Commits.{ArePlain, Commits};
+ghost use Rattle.dk_txn.specs.Commits.{Commits};
 ghost use Rattle.dk_cli.specs.Actions.{actions_of, IsEnding, TakesActions};
 ghost use Rattle.dk_cli.specs.Commit.{CommitAnswers, CommitEnds, GivesLine};
 ghost use Rattle.dk_cli.specs.Run.{IsUnwritten};
@@ -35,7 +35,7 @@ fn commit(
     ensures clashes_later { clashes (held engine.old.store) ≤ clashes (held engine.new.store) }
     ensures store { result ≡ Err Refusal.Store → Rose (store_faults (held engine.old.store)) (store_faults (held engine.new.store)) }
     ensures taken { (path : List ℕ) → result ≡ Err (Refusal.Taken path) → Rose (clashes (held engine.old.store)) (clashes (held engine.new.store)) }
-    ensures lawful { ArePlain actions.now → KeepsLawful (told (held engine.old.store)) (told (held engine.new.store)) }
+    ensures lawful { KeepsLawful (told (held engine.old.store)) (told (held engine.new.store)) }
 {
     commit_now(
         alloc,
@@ -74,7 +74,7 @@ fn commit_actions<O: Sink>(
 ) -> Status
     ensures answer { IfSome (told (held engine.old.store)) (λ events. CommitEnds (attempt events actions.now now base) events (O.taken out.old) result (O.taken out.new) (told (held engine.new.store))) }
     ensures alike { is_some (told (held engine.new.store)) ≡ is_some (told (held engine.old.store)) }
-    ensures lawful { ArePlain actions.now → KeepsLawful (told (held engine.old.store)) (told (held engine.new.store)) }
+    ensures lawful { KeepsLawful (told (held engine.old.store)) (told (held engine.new.store)) }
     ensures limits { engine.new.limits ≡ engine.old.limits }
     ensures store_later { store_faults (held engine.old.store) ≤ store_faults (held engine.new.store) }
     ensures clashes_later { clashes (held engine.old.store) ≤ clashes (held engine.new.store) }
@@ -100,7 +100,6 @@ fn read_actions<I: Source>(
 ) -> Result<Commit, Status>
     requires { AreWithin engine.old.limits }
     ensures means { IfSome (I.left input.old) (λ left. TakesActions result (actions_of engine.old.limits left)) }
-    ensures plain { IfOk result (λ commit. ArePlain commit) }
     ensures at_end { OnOk result (IfSome (I.left input.new) (λ left. left ≡ [])) }
     ensures source { result ≡ Err Status.SourceFault → Rose (I.source_faults input.old) (I.source_faults input.new) }
     ensures later { I.source_faults input.old ≤ I.source_faults input.new }

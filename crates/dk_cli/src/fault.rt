@@ -1,7 +1,7 @@
 //! What the program says of a status that isn't Done.
 ghost use Rattle.std.specs.Prelude.{◌≡◌, Some, IfOk, option_map, string_bytes};
 ghost use Rattle.serde_json.specs.View.{view};
-ghost use Rattle.dk_cli.specs.Fault.{fault_object, fault_text, limit_object, name_object, named_object, no_object, path_object, place_object, refusal_object, rule_object, which_name};
+ghost use Rattle.dk_cli.specs.Fault.{conflict_object, fault_object, fault_text, limit_object, moment_object, name_object, named_object, no_object, number_object, path_object, place_object, refusal_object, which_name};
 
 use crate::status::Status;
 use dk_engine::{Refusal, Which};
@@ -60,6 +60,9 @@ fn which_text(which: Which) -> &'static str
         Which::InputLine => "InputLine",
         Which::InputLines => "InputLines",
         Which::Version => "Version",
+        Which::Object => "Object",
+        Which::Rows => "Rows",
+        Which::Time => "Time",
     }
 }
 
@@ -75,13 +78,35 @@ fn limit_fields(alloc: Global, value: u64, which: &str) -> Result<Value, AllocEr
     Ok(Value::from(fields))
 }
 
-/// `{"rule":N}`.
-#[tactic(auto, unfolding(crate::specs::Fault::rule_object, dk_model::specs::Shown::object_with))]
-fn rule_fields(alloc: Global, rule: u8) -> Result<Value, AllocError>
-    ensures { IfOk result (λ fields. view fields ≡ rule_object rule) }
+/// `{"kind":K,"version":V}`.
+#[tactic(auto, unfolding(crate::specs::Fault::conflict_object, dk_model::specs::Shown::object_with))]
+fn conflict_fields(alloc: Global, version: u64, kind: &str) -> Result<Value, AllocError>
+    ensures { IfOk result (λ fields. view fields ≡ conflict_object version kind.now) }
 {
     let mut fields = Map::new(alloc);
-    serde_json::put(&mut fields, alloc, "rule", Value::from(rule))?;
+    let kind = Value::try_from_str(alloc, kind)?;
+    serde_json::put(&mut fields, alloc, "kind", kind)?;
+    serde_json::put(&mut fields, alloc, "version", Value::from(version))?;
+    Ok(Value::from(fields))
+}
+
+/// `{"NAME":N}`.
+#[tactic(auto, unfolding(crate::specs::Fault::number_object, dk_model::specs::Shown::object_with))]
+fn number_fields(alloc: Global, name: &str, number: u64) -> Result<Value, AllocError>
+    ensures { IfOk result (λ fields. view fields ≡ number_object name.now number) }
+{
+    let mut fields = Map::new(alloc);
+    serde_json::put(&mut fields, alloc, name, Value::from(number))?;
+    Ok(Value::from(fields))
+}
+
+/// `{"first":T}`.
+#[tactic(auto, unfolding(crate::specs::Fault::moment_object, dk_model::specs::Shown::object_with))]
+fn moment_fields(alloc: Global, first: i64) -> Result<Value, AllocError>
+    ensures { IfOk result (λ fields. view fields ≡ moment_object first) }
+{
+    let mut fields = Map::new(alloc);
+    serde_json::put(&mut fields, alloc, "first", Value::from(first))?;
     Ok(Value::from(fields))
 }
 
@@ -113,8 +138,38 @@ fn refusal_value(alloc: Global, refusal: &Refusal) -> Result<Value, AllocError>
             )
         }
         Refusal::OutOfMemory => named(alloc, "outOfMemory", no_fields(alloc)),
-        Refusal::Invalid { rule } => named(alloc, "invalid", rule_fields(alloc, *rule)?),
+        Refusal::Invalid { rule } => {
+            named(
+                alloc,
+                "invalid",
+                number_fields(alloc, "rule", u64::from(*rule))?,
+            )
+        }
+        Refusal::NoVersion { latest } => {
+            named(alloc, "noVersion", number_fields(alloc, "latest", *latest)?)
+        }
         Refusal::Taken { path } => named(alloc, "taken", path_fields(alloc, path)?),
+        Refusal::WinnersGone { path } => named(alloc, "winnersGone", path_fields(alloc, path)?),
+        Refusal::Conflict { version, kind } => {
+            named(
+                alloc,
+                "conflict",
+                conflict_fields(alloc, *version, (*kind).name())?,
+            )
+        }
+        Refusal::TooEarly { first } => named(alloc, "tooEarly", moment_fields(alloc, *first)?),
+        Refusal::NothingToDo { version } => {
+            named(
+                alloc,
+                "nothingToDo",
+                number_fields(alloc, "version", *version)?,
+            )
+        }
+        Refusal::Gone { path } => named(alloc, "gone", path_fields(alloc, path)?),
+        Refusal::NotBegun => named(alloc, "notBegun", no_fields(alloc)),
+        Refusal::NoSpare { count } => {
+            named(alloc, "noSpare", number_fields(alloc, "count", *count)?)
+        }
     }
 }
 

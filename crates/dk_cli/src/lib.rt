@@ -11,6 +11,7 @@ mod scan;
 mod show;
 mod status;
 mod text;
+mod words;
 
 pub use fault::fault_line;
 pub use program::run;

@@ -1,59 +1,32 @@
 //! The top call.
-ghost use Rattle.std.specs.Prelude.{◌≡◌, [], ◌≤◌, ◌-◌, ◌↔◌, List, ℕ, Some, IfSome, IsTrue, length, string_bytes};
+ghost use Rattle.std.specs.Prelude.{◌≡◌, [], ◌≤◌, ◌↔◌, List, ℕ, Option, IfSome};
 ghost use Rattle.dk_store.specs.Causes.{Rose};
-ghost use Rattle.dk_model.specs.State.{fold};
-ghost use Rattle.dk_model.specs.declared.action.Action.{Action};
-ghost use Rattle.dk_model.specs.declared.action.Protocol.{Protocol};
-ghost use Rattle.dk_model.specs.declared.action.Metadata.{Metadata};
 ghost use Rattle.dk_engine.specs.Held.{held};
 ghost use Rattle.dk_engine.specs.Usual.{AreWithin};
 ghost use Rattle.dk_lawful.specs.Kept.{KeepsLawful};
 ghost use Rattle.dk_txn.specs.Attempt.{attempt};
-ghost use Rattle.dk_snapshot.specs.History.{IsLog};
 ghost use Rattle.dk_cli.specs.Actions.{actions_of};
 ghost use Rattle.dk_cli.specs.Commit.{CommitAnswers};
-ghost use Rattle.dk_cli.specs.Show.{show, cut_of};
-ghost use Rattle.dk_cli.specs.Shown.{shown};
-ghost use Rattle.dk_cli.specs.Run.{IsShow, IsCommit, Answers, IsUnwritten};
-ghost use Rattle.dk_cli.specs.History.{Shows};
+ghost use Rattle.dk_cli.specs.Show.{show};
+ghost use Rattle.dk_cli.specs.Run.{AsksShow, IsCommit, IsNoCommand, Answers, IsUnwritten};
+ghost use Rattle.dk_cli.specs.History.{ShowsLog};
 
 use crate::commit::commit_command;
 use crate::show::show_text;
 use crate::status::Status;
+use crate::words::{is_commit, show_of};
 use dk_engine::{Engine, Refusal};
 use dk_store::{Failed, Sink, Source, Store, give_all};
 use std::alloc::Global;
 
-/// How long a deleted file is kept, in milliseconds: one week.
-const DELETED_FILE_RETENTION: i64 = 604_800_000;
-
-fn is_word(word: &String, text: &str) -> bool
-    ensures { IsTrue result ↔ (string_bytes word.now ≡ text.now) }
-{
-    word.as_str() == text
-}
-
-fn is_show(words: &[String]) -> bool
-    ensures { IsTrue result ↔ IsShow words.now }
-{
-    words.len() == 1 && is_word(&words[0], "show")
-}
-
-fn is_commit(words: &[String]) -> bool
-    ensures { IsTrue result ↔ IsCommit words.now }
-{
-    words.len() == 1 && is_word(&words[0], "commit")
-}
-
-/// The moment up to which tombstones are expired.
-fn cut_at(now: i64) -> i64
-    ensures { result ≡ cut_of now }
-{
-    now.saturating_sub(DELETED_FILE_RETENTION)
-}
-
 /// Makes the whole output of `show`, and then gives it to the sink.
-fn show_command<O: Sink>(alloc: Global, engine: &mut Engine, out: &mut O, now: i64) -> Status
+fn show_command<O: Sink>(
+    alloc: Global,
+    engine: &mut Engine,
+    out: &mut O,
+    at: Option<u64>,
+    now: i64,
+) -> Status
     ensures usage { result ≡ Status.Usage → ⊥ }
     ensures source { result ≡ Status.SourceFault → ⊥ }
     ensures sink { result ≡ Status.SinkFault → Rose (O.sink_faults out.old) (O.sink_faults out.new) }
@@ -66,9 +39,9 @@ fn show_command<O: Sink>(alloc: Global, engine: &mut Engine, out: &mut O, now: i
     ensures store_later { store_faults (held engine.old.store) ≤ store_faults (held engine.new.store) }
     ensures sink_later { O.sink_faults out.old ≤ O.sink_faults out.new }
     ensures unwritten { IsUnwritten result (O.taken out.old) (O.taken out.new) }
-    ensures answer { IfSome (told (held engine.old.store)) (λ events. Answers (show events (cut_of now)) (O.taken out.old) result (O.taken out.new)) }
+    ensures answer { IfSome (told (held engine.old.store)) (λ events. Answers (show events at now) (O.taken out.old) result (O.taken out.new)) }
 {
-    match show_text(alloc, engine, cut_at(now)) {
+    match show_text(alloc, engine, at, now) {
         Err(refusal) => Status::Refused(refusal),
         Ok(text) => match give_all(out, &text) {
             Ok(()) => Status::Done,
@@ -80,13 +53,13 @@ fn show_command<O: Sink>(alloc: Global, engine: &mut Engine, out: &mut O, now: i
 /// All that the program does: carries out the command that the words say over the engine, and ends with a status.
 ///
 /// `now` is the moment of the call in milliseconds since 1970-01-01T00:00:00Z, and `base` the first of the ids that a
-/// command may draw. By now the commands are `show` and `commit`, each of that one word. The whole output is made first
-/// and given to the sink at the end; `commit` reads the input to its end, and its transaction has the id `base`.
+/// command may draw. By now the commands are `show`, `show --at V` and `commit`. The whole output is made first and given to
+/// the sink at the end; `commit` reads the input to its end, and its transaction has the id `base`.
 ///
-/// `whole_log` is the promise on `show` in the subject's own words: over a log of commits 0 to n with protocol and
-/// metadata the sink took exactly the text of version n as the fold of all commits gives it. `show` says the same of
-/// every log, and with it exactly when each refusal comes. `commit` says which one event a commit adds, and exactly when
-/// each refusal comes. `lawful` is the promise on the log: whatever the command and its end, what was lawful stays so.
+/// `whole_log` is the promise on `show` in the subject's own words: over a log of commits 0 to n whose version at hand is one
+/// that is read, the sink took exactly the text of that version as the fold of the commits up to it gives it. `show` says the
+/// same of every log, and with it exactly when each refusal comes. `commit` says which one event a commit adds, and exactly
+/// when each refusal comes. `lawful` is the promise on the log: whatever the command and its end, what was lawful stays so.
 pub fn run<I: Source, O: Sink>(
     alloc: Global,
     words: &[String],
@@ -97,20 +70,22 @@ pub fn run<I: Source, O: Sink>(
     base: u128,
 ) -> Status
     requires { AreWithin engine.old.limits }
-    ensures usage { (result ≡ Status.Usage) ↔ ((IsShow words.now → ⊥) × (IsCommit words.now → ⊥)) }
+    ensures usage { (result ≡ Status.Usage) ↔ IsNoCommand words.now }
     ensures source { result ≡ Status.SourceFault → Rose (I.source_faults input.old) (I.source_faults input.new) }
     ensures sink { result ≡ Status.SinkFault → Rose (O.sink_faults out.old) (O.sink_faults out.new) }
     ensures store { result ≡ Status.Refused Refusal.Store → Rose (store_faults (held engine.old.store)) (store_faults (held engine.new.store)) }
     ensures taken { (path : List ℕ) → result ≡ Status.Refused (Refusal.Taken path) → Rose (clashes (held engine.old.store)) (clashes (held engine.new.store)) }
-    ensures show { IsShow words.now → IfSome (told (held engine.old.store))
-        (λ events. Answers (show events (cut_of now)) (O.taken out.old) result (O.taken out.new)) }
-    ensures whole_log { IsShow words.now → IfSome (told (held engine.old.store))
-        (λ events. (log : List (List Action)) (protocol : Protocol) (metadata : Metadata) → IsLog events log
-        → (fold log).protocol ≡ Some protocol → (fold log).metadata ≡ Some metadata
-        → Shows (shown (length log - 1) (fold log) (cut_of now)) (O.taken out.old) result (O.taken out.new)) }
+    ensures show { (at : Option ℕ) → AsksShow words.now at → IfSome (told (held engine.old.store))
+        (λ events. Answers (show events at now) (O.taken out.old) result (O.taken out.new)) }
+    ensures whole_log { (at : Option ℕ) → AsksShow words.now at → IfSome (told (held engine.old.store))
+        (λ events. ShowsLog events at now (O.taken out.old) result (O.taken out.new)) }
     ensures commit { IsCommit words.now → IfSome (told (held engine.old.store)) (λ events. IfSome (I.left input.old) (λ left.
         CommitAnswers (actions_of engine.old.limits left) (λ actions. attempt events actions now base) events (O.taken out.old) result (O.taken out.new) (told (held engine.new.store)))) }
     ensures lawful { KeepsLawful (told (held engine.old.store)) (told (held engine.new.store)) }
+
+    // What never comes of `show`.
+    ensures no_source { (IsCommit words.now → ⊥) → result ≡ Status.SourceFault → ⊥ }
+    ensures no_taken { (IsCommit words.now → ⊥) → (path : List ℕ) → result ≡ Status.Refused (Refusal.Taken path) → ⊥ }
 
     // What stays as it was.
     ensures same { (IsCommit words.now → ⊥) → told (held engine.new.store) ≡ told (held engine.old.store) }
@@ -124,8 +99,8 @@ pub fn run<I: Source, O: Sink>(
     ensures source_later { I.source_faults input.old ≤ I.source_faults input.new }
     ensures sink_later { O.sink_faults out.old ≤ O.sink_faults out.new }
 {
-    if is_show(words) {
-        return show_command(alloc, engine, out, now);
+    if let Some(at) = show_of(words) {
+        return show_command(alloc, engine, out, at, now);
     }
     if is_commit(words) {
         return commit_command(alloc, engine, input, out, now, base);

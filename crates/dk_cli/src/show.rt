@@ -1,50 +1,53 @@
-//! The command `show`: the newest version of the table, as text.
-ghost use Rattle.std.specs.Prelude.{◌≡◌, ◌≤◌, List, ℕ, Err, IfSome};
+//! The command `show`: a version of the table, as text.
+ghost use Rattle.std.specs.Prelude.{◌≡◌, ◌≤◌, List, ℕ, Err, IfOk, IfSome};
 ghost use Rattle.dk_store.specs.Causes.{Rose};
 ghost use Rattle.dk_engine.specs.Answers.{Gives};
 ghost use Rattle.dk_engine.specs.Held.{held};
-ghost use Rattle.dk_snapshot.specs.Newest.{newest};
+ghost use Rattle.dk_snapshot.specs.Opened.{opened};
 ghost use Rattle.dk_cli.specs.Show.{show, text_of_snapshot};
 
 use crate::text::shown_text;
 use dk_engine::{Engine, Refusal};
-use dk_snapshot::{Snapshot, open_newest};
-use std::alloc::Global;
+use dk_snapshot::{Snapshot, open_at};
+use std::alloc::{AllocError, Global};
 
 /// The text of a snapshot.
-fn text_of(alloc: Global, snapshot: &Snapshot, cut: i64) -> Result<Vec<u8>, Refusal>
-    ensures means { Gives (λ text. text.items) result (text_of_snapshot snapshot.now cut) }
-    ensures store { result ≡ Err Refusal.Store → ⊥ }
-    ensures taken { (path : List ℕ) → result ≡ Err (Refusal.Taken path) → ⊥ }
+fn text_of(alloc: Global, snapshot: &Snapshot) -> Result<Vec<u8>, AllocError>
+    ensures { IfOk result (λ text. text.items ≡ text_of_snapshot snapshot.now) }
 {
-    Ok(shown_text(alloc, snapshot.version, &snapshot.state, cut)?)
+    shown_text(alloc, snapshot.version, &snapshot.state, snapshot.cut)
 }
 
-/// The newest version of the engine's table.
-fn open(alloc: Global, engine: &mut Engine) -> Result<Snapshot, Refusal>
+/// The asked version of the engine's table, or the latest one.
+fn open(alloc: Global, engine: &mut Engine, at: Option<u64>, now: i64) -> Result<Snapshot, Refusal>
     ensures same { told (held engine.new.store) ≡ told (held engine.old.store) }
     ensures clashes { clashes (held engine.new.store) ≡ clashes (held engine.old.store) }
     ensures limits { engine.new.limits ≡ engine.old.limits }
     ensures later { store_faults (held engine.old.store) ≤ store_faults (held engine.new.store) }
     ensures store { result ≡ Err Refusal.Store → Rose (store_faults (held engine.old.store)) (store_faults (held engine.new.store)) }
     ensures taken { (path : List ℕ) → result ≡ Err (Refusal.Taken path) → ⊥ }
-    ensures means { IfSome (told (held engine.old.store)) (λ events. Gives (λ snapshot. snapshot) result (newest events)) }
+    ensures means { IfSome (told (held engine.old.store)) (λ events. Gives (λ snapshot. snapshot) result (opened events at now)) }
 {
-    open_newest(alloc, &mut *engine.store, &mut *engine.json)
+    open_at(alloc, &mut *engine.store, &mut *engine.json, at, now)
 }
 
-/// The whole output of `show` at a cut.
-pub(crate) fn show_text(alloc: Global, engine: &mut Engine, cut: i64) -> Result<Vec<u8>, Refusal>
+/// The whole output of `show` of a version.
+pub(crate) fn show_text(
+    alloc: Global,
+    engine: &mut Engine,
+    at: Option<u64>,
+    now: i64,
+) -> Result<Vec<u8>, Refusal>
     ensures same { told (held engine.new.store) ≡ told (held engine.old.store) }
     ensures clashes { clashes (held engine.new.store) ≡ clashes (held engine.old.store) }
     ensures limits { engine.new.limits ≡ engine.old.limits }
     ensures later { store_faults (held engine.old.store) ≤ store_faults (held engine.new.store) }
     ensures store { result ≡ Err Refusal.Store → Rose (store_faults (held engine.old.store)) (store_faults (held engine.new.store)) }
     ensures taken { (path : List ℕ) → result ≡ Err (Refusal.Taken path) → ⊥ }
-    ensures means { IfSome (told (held engine.old.store)) (λ events. Gives (λ text. text.items) result (show events cut)) }
+    ensures means { IfSome (told (held engine.old.store)) (λ events. Gives (λ text. text.items) result (show events at now)) }
 {
-    match open(alloc, engine) {
+    match open(alloc, engine, at, now) {
         Err(refusal) => Err(refusal),
-        Ok(snapshot) => text_of(alloc, &snapshot, cut),
+        Ok(snapshot) => Ok(text_of(alloc, &snapshot)?),
     }
 }

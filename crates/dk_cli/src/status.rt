@@ -36,8 +36,16 @@ impl Status {
             Status::Refused(Refusal::Damaged { .. }) => 7,
             Status::Refused(Refusal::Limit { .. }) => 8,
             Status::Refused(Refusal::OutOfMemory) => 9,
+            Status::Refused(Refusal::Conflict { .. }) => 6,
             Status::Refused(Refusal::Invalid { .. }) => 12,
+            Status::Refused(Refusal::NoVersion { .. }) => 13,
             Status::Refused(Refusal::Taken { .. }) => 14,
+            Status::Refused(Refusal::WinnersGone { .. }) => 15,
+            Status::Refused(Refusal::TooEarly { .. }) => 16,
+            Status::Refused(Refusal::NothingToDo { .. }) => 17,
+            Status::Refused(Refusal::Gone { .. }) => 18,
+            Status::Refused(Refusal::NotBegun) => 19,
+            Status::Refused(Refusal::NoSpare { .. }) => 20,
         }
     }
 }

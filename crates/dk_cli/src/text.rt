@@ -4,10 +4,13 @@ ghost use Rattle.std.specs.FinMap as maps;
 ghost use Rattle.std.specs.Option.{option_to_list};
 ghost use Rattle.dk_model.specs.Written.{text_of};
 ghost use Rattle.dk_cli.specs.Commit.{committed_line};
-ghost use Rattle.dk_cli.specs.Shown.{snapshot_line, head_text, file_actions, is_unexpired, live, removal, shown};
+ghost use Rattle.dk_cli.specs.Shown.{snapshot_line, head_text, file_actions, named_actions, is_unexpired, live, removal, recorded, configured, shown};
 
-use dk_actjson::{append_add, append_metadata, append_protocol, append_tombstone};
-use dk_model::{Action, AddFile, Metadata, Protocol, TableState, TextMap};
+use dk_actjson::{
+    append_add, append_application, append_domain, append_metadata, append_protocol,
+    append_tombstone,
+};
+use dk_model::{Action, AddFile, Application, Metadata, Protocol, TableState, Text, TextMap};
 use serde_json::{Map, Value};
 use std::alloc::{AllocError, Global};
 
@@ -141,6 +144,42 @@ fn append_paths(
     append_tombstones(alloc, out, &state.tombstones, cut)
 }
 
+/// A line for each application, by name.
+fn append_applications(
+    alloc: Global,
+    out: &mut Vec<u8>,
+    applications: &TextMap<Application>,
+) -> Result<(), AllocError>
+    ensures { OnOk result (out.new.items ≡ out.old.items ++ text_of (map recorded (maps.entries applications.now))) }
+{
+    for (name, application) in applications.iter() {
+        append_application(alloc, out, name, application)?;
+    }
+    Ok(())
+}
+
+/// A line for each domain, by name.
+fn append_domains(
+    alloc: Global,
+    out: &mut Vec<u8>,
+    domains: &TextMap<Text>,
+) -> Result<(), AllocError>
+    ensures { OnOk result (out.new.items ≡ out.old.items ++ text_of (map configured (maps.entries domains.now))) }
+{
+    for (name, configuration) in domains.iter() {
+        append_domain(alloc, out, name, configuration.as_str())?;
+    }
+    Ok(())
+}
+
+/// The lines of the applications and of the domains.
+fn append_names(alloc: Global, out: &mut Vec<u8>, state: &TableState) -> Result<(), AllocError>
+    ensures { OnOk result (out.new.items ≡ out.old.items ++ text_of (named_actions state.now)) }
+{
+    append_applications(alloc, out, &state.applications)?;
+    append_domains(alloc, out, &state.domains)
+}
+
 /// The text of a version by its state.
 pub(crate) fn shown_text(
     alloc: Global,
@@ -153,5 +192,6 @@ pub(crate) fn shown_text(
     let mut out = Vec::new(alloc);
     append_head(alloc, &mut out, version, state)?;
     append_paths(alloc, &mut out, state, cut)?;
+    append_names(alloc, &mut out, state)?;
     Ok(out)
 }

@@ -1,0 +1,9 @@
+use Rattle.std.proofs.Common.{◌≡◌, ◌++◌, map}
+use Rattle.std.specs.FinMap as maps
+use Rattle.dk_model.specs.Written.{text_of}
+use Rattle.dk_cli.specs.Shown.{recorded}
+use Rattle.dk_cli.proofs.text.append_applications.Given as goal
+
+-- what is written, and the lines that are left, is the whole
+abbrev pub invariant-loop-name : goal.invariant-loop-name
+invariant-loop-name l = l.out.items ++ text_of (map recorded l.name-iterator) ≡ l.fn.out.items ++ text_of (map recorded (maps.entries l.applications))
