@@ -5,6 +5,8 @@
 mod early;
 mod folder;
 mod program;
+#[cfg(test)]
+mod tests;
 
 use std::process::ExitCode;
 

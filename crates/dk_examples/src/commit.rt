@@ -1,4 +1,5 @@
 //! `commit` over stores in memory, and what `show` then says.
+ghost use Rattle.dk_engine.specs.Usual.{AreWithin};
 
 use dk_cli::{fault_line, run};
 use dk_engine::{Engine, Limits};
@@ -89,6 +90,96 @@ const CASES: [Case; 5] = [
     },
 ];
 
+/// Small limits, an input, and the refusal that is to come.
+struct Limited {
+    name: &'static str,
+    limits: Limits,
+    input: &'static str,
+    code: u8,
+    fault: &'static str,
+}
+
+const LIMITED: [Limited; 6] = [
+    Limited {
+        name: "an input of one byte too many",
+        limits: Limits {
+            input: 4,
+            line: 9,
+            lines: 9,
+        },
+        input: "\n\n\n\n\n[",
+        code: 8,
+        fault: "{\"limit\":{\"value\":5,\"which\":\"Input\"}}",
+    },
+    Limited {
+        name: "a line of one byte too many",
+        limits: Limits {
+            input: 9,
+            line: 4,
+            lines: 9,
+        },
+        input: "\n12345",
+        code: 8,
+        fault: "{\"limit\":{\"value\":5,\"which\":\"InputLine\"}}",
+    },
+    Limited {
+        name: "a line too many, which has only begun",
+        limits: Limits {
+            input: 9,
+            line: 9,
+            lines: 2,
+        },
+        input: "\n\n1",
+        code: 8,
+        fault: "{\"limit\":{\"value\":3,\"which\":\"InputLines\"}}",
+    },
+    Limited {
+        name: "the limit that is passed first, though the whole passes another",
+        limits: Limits {
+            input: 7,
+            line: 4,
+            lines: 1,
+        },
+        input: "12345\n\n\n",
+        code: 8,
+        fault: "{\"limit\":{\"value\":5,\"which\":\"InputLine\"}}",
+    },
+    Limited {
+        name: "of two limits that one byte passes, that on the input",
+        limits: Limits {
+            input: 4,
+            line: 4,
+            lines: 9,
+        },
+        input: "12345",
+        code: 8,
+        fault: "{\"limit\":{\"value\":5,\"which\":\"Input\"}}",
+    },
+    Limited {
+        name: "an input that meets all limits passes none",
+        limits: Limits {
+            input: 5,
+            line: 3,
+            lines: 2,
+        },
+        input: "\n[1]\n",
+        code: 7,
+        fault: "{\"damaged\":{\"path\":\"-\",\"place\":2}}",
+    },
+];
+
+/// These limits, none of them above its usual number.
+fn within(limits: Limits) -> Limits
+    ensures { AreWithin result }
+{
+    let usual = Limits::usual();
+    Limits {
+        input: limits.input.min(usual.input),
+        line: limits.line.min(usual.line),
+        lines: limits.lines.min(usual.lines),
+    }
+}
+
 /// Makes one call of `run` with this word, and compares all that it answers.
 fn call(
     rt: &impl Abort,
@@ -102,7 +193,7 @@ fn call(
     let mut words = Vec::new(alloc);
     words.push(String::from_str(alloc, word)?)?;
     let mut out = MemSink::new(alloc, Vec::new(alloc));
-    engine.limits = Limits::usual();
+    engine.limits = within(engine.limits);
     let status = run(alloc, &words, engine, input, &mut out, 1000, 32);
     assert_eq!(rt; status.code(), wanted.0, "{name}");
     assert!(rt; out.taken() == wanted.1.as_bytes(), "{name}");
@@ -169,6 +260,45 @@ fn commit_answers_each_case(rt: HostRuntime) -> Result<(), Fail> {
     let alloc = rt.alloc();
     for case in &CASES {
         try_case(&rt, alloc, case)?;
+    }
+    Ok(())
+}
+
+/// `commit` under these limits over an empty store, which stays empty.
+fn try_limits(rt: &impl Abort, alloc: Global, case: &Limited) -> Result<(), AllocError> {
+    let mut engine = Engine {
+        store: Box::new(alloc, MemStore::new(alloc))?,
+        json: Box::new(alloc, SerdeJson::new())?,
+        limits: case.limits,
+    };
+    let mut input = source(alloc, case.input, false)?;
+    let wanted = (case.code, "", case.fault);
+    call(
+        rt,
+        alloc,
+        &mut engine,
+        "commit",
+        &mut input,
+        wanted,
+        case.name,
+    )?;
+    let mut nothing = source(alloc, "", false)?;
+    call(
+        rt,
+        alloc,
+        &mut engine,
+        "show",
+        &mut nothing,
+        (4, "", ""),
+        case.name,
+    )
+}
+
+#[test]
+fn commit_stops_at_the_limit_that_is_passed_first(rt: HostRuntime) -> Result<(), Fail> {
+    let alloc = rt.alloc();
+    for case in &LIMITED {
+        try_limits(&rt, alloc, case)?;
     }
     Ok(())
 }

@@ -44,6 +44,65 @@ const SNAPSHOT_1: &str = r#"{"snapshot":{"version":1}}
 const SNAPSHOT_2: &str = r#"{"snapshot":{"version":2}}
 "#;
 
+const PROTOCOL_3: &str =
+    r#"{"protocol":{"minReaderVersion":3,"minWriterVersion":7,"readerFeatures":[],"writerFeatures":[]}}
+"#;
+
+const PROTOCOL_4: &str = r#"{"protocol":{"minReaderVersion":4,"minWriterVersion":7}}
+"#;
+
+/// Lines as another producer may write them: a commit's own line with numbers that have fractions, fields and actions that
+/// nobody knows, statistics with escapes, tags that are null, files of changed rows, and nulls in place of what is absent.
+const FOREIGN: &str =
+    r#"{"commitInfo":{"timestamp":1.5,"operation":"WRITE","operationMetrics":{"numFiles":"1","rate":0.25e1},"txnId":7}}
+{"protocol":{"minReaderVersion":1,"minWriterVersion":2,"readerFeatures":null,"writerFeatures":null}}
+{"metaData":{"id":"t","name":null,"format":{"provider":"parquet","options":{}},"schemaString":"{}","partitionColumns":[],"configuration":{},"comment":[1,{"a":null}]}}
+{"unheardOf":{"add":1}}
+{"add":{"path":"a","partitionValues":{"p":null},"size":1,"modificationTime":5,"dataChange":true,"stats":"{\"n\":\"\u00e9\\\"}","tags":null,"more":{}}}
+{"cdc":{"path":"changes/a","size":-1.5}}
+{"cdc":"anything"}
+
+{"remove":{"path":"b","deletionTimestamp":9500000000,"deletionVector":{"storageType":"u"},"partitionValues":7}}
+"#;
+
+const FOREIGN_A: &str =
+    r#"{"add":{"dataChange":false,"modificationTime":5,"partitionValues":{"p":null},"path":"a","size":1,"stats":"{\"n\":\"é\\\"}"}}
+"#;
+
+const FOREIGN_B: &str =
+    r#"{"remove":{"dataChange":false,"deletionTimestamp":9500000000,"path":"b"}}
+"#;
+
+const TXN_B: &str = r#"{"txn":{"appId":"b","version":7}}
+"#;
+
+const TXN_A_1: &str = r#"{"txn":{"appId":"a","version":1}}
+"#;
+
+const TXN_A_2: &str = r#"{"txn":{"appId":"a","lastUpdated":12,"version":2}}
+"#;
+
+const DOMAIN_D: &str = r#"{"domainMetadata":{"configuration":"{}","domain":"d","removed":false}}
+"#;
+
+const DOMAIN_E: &str = r#"{"domainMetadata":{"configuration":"x","domain":"e","removed":false}}
+"#;
+
+const NO_DOMAIN_E: &str = r#"{"domainMetadata":{"configuration":"","domain":"e","removed":true}}
+"#;
+
+const VECTOR_A: &str =
+    r#"{"add":{"dataChange":true,"deletionVector":{},"modificationTime":5,"partitionValues":{},"path":"a","size":1}}
+"#;
+
+const KEPT_A_SECOND: &str =
+    r#"{"metaData":{"configuration":{"delta.deletedFileRetentionDuration":"interval 1 second"},"format":{"options":{},"provider":"parquet"},"id":"t","partitionColumns":[],"schemaString":"{}"}}
+"#;
+
+const KEPT_FOR_MONTHS: &str =
+    r#"{"metaData":{"configuration":{"delta.deletedFileRetentionDuration":"interval 2 months"},"format":{"options":{},"provider":"parquet"},"id":"t","partitionColumns":[],"schemaString":"{}"}}
+"#;
+
 /// What fails in a case.
 #[derive(Clone, Copy, PartialEq, Eq)]
 enum Fails {
@@ -64,7 +123,7 @@ struct Case {
     fault: &'static str,
 }
 
-const CASES: [Case; 11] = [
+const CASES: [Case; 24] = [
     Case {
         name: "an empty store lacks its first commit",
         commits: &[],
@@ -145,6 +204,126 @@ const CASES: [Case; 11] = [
         code: 2,
         lines: &[],
         fault: r#"{"usage":{}}"#,
+    },
+    Case {
+        name: "a version is shown as it was",
+        commits: &[&[PROTOCOL, METADATA, ADD_A], &[REMOVE_A], &[ADD_A]],
+        words: &["show", "--at", "1"],
+        fails: Fails::Nothing,
+        code: 0,
+        lines: &[SNAPSHOT_1, PROTOCOL, METADATA, GONE_A],
+        fault: "",
+    },
+    Case {
+        name: "a version above the latest isn't there",
+        commits: &[&[PROTOCOL, METADATA, ADD_A], &[REMOVE_A]],
+        words: &["show", "--at", "9223372036854775807"],
+        fails: Fails::Nothing,
+        code: 13,
+        lines: &[],
+        fault: r#"{"noVersion":{"latest":1}}"#,
+    },
+    Case {
+        name: "a number past the greatest version is none",
+        commits: &[&[PROTOCOL, METADATA, ADD_A]],
+        words: &["show", "--at", "9223372036854775808"],
+        fails: Fails::Nothing,
+        code: 2,
+        lines: &[],
+        fault: r#"{"usage":{}}"#,
+    },
+    Case {
+        name: "a number with a leading zero is none",
+        commits: &[&[PROTOCOL, METADATA, ADD_A]],
+        words: &["show", "--at", "00"],
+        fails: Fails::Nothing,
+        code: 2,
+        lines: &[],
+        fault: r#"{"usage":{}}"#,
+    },
+    Case {
+        name: "a line that is damaged after the asked version is not read",
+        commits: &[&[PROTOCOL, METADATA, ADD_A], &["{\"add\":"]],
+        words: &["show", "--at", "0"],
+        fails: Fails::Nothing,
+        code: 0,
+        lines: &[SNAPSHOT_0, PROTOCOL, METADATA, LIVE_A],
+        fault: "",
+    },
+    Case {
+        name: "of two damaged commits the newest comes first",
+        commits: &[&[PROTOCOL, METADATA], &["[1]"], &[ADD_A], &["\n", "[2]"]],
+        words: &["show"],
+        fails: Fails::Nothing,
+        code: 7,
+        lines: &[],
+        fault: r#"{"damaged":{"path":"_delta_log/00000000000000000003.json","place":2}}"#,
+    },
+    Case {
+        name: "another producer's commit is read",
+        commits: &[&[FOREIGN]],
+        words: &["show"],
+        fails: Fails::Nothing,
+        code: 0,
+        lines: &[SNAPSHOT_0, PROTOCOL, METADATA, FOREIGN_A, FOREIGN_B],
+        fault: "",
+    },
+    Case {
+        name: "applications and domains are shown by name, as they were set last",
+        commits: &[
+            &[PROTOCOL, METADATA, TXN_B, TXN_A_1, DOMAIN_E],
+            &[DOMAIN_D, NO_DOMAIN_E, TXN_A_2],
+        ],
+        words: &["show"],
+        fails: Fails::Nothing,
+        code: 0,
+        lines: &[SNAPSHOT_1, PROTOCOL, METADATA, TXN_A_2, TXN_B, DOMAIN_D],
+        fault: "",
+    },
+    Case {
+        name: "reader version 3 isn't read so far",
+        commits: &[&[PROTOCOL_3, METADATA, VECTOR_A]],
+        words: &["show"],
+        fails: Fails::Nothing,
+        code: 5,
+        lines: &[],
+        fault: r#"{"unsupported":{"name":"minReaderVersion 3"}}"#,
+    },
+    Case {
+        name: "nor is reader version 4",
+        commits: &[&[PROTOCOL_4, METADATA]],
+        words: &["show"],
+        fails: Fails::Nothing,
+        code: 5,
+        lines: &[],
+        fault: r#"{"unsupported":{"name":"minReaderVersion 4"}}"#,
+    },
+    Case {
+        name: "a deletion vector of a live file isn't read, and that of a removed file is passed over",
+        commits: &[&[PROTOCOL, KEPT_FOR_MONTHS, VECTOR_A]],
+        words: &["show"],
+        fails: Fails::Nothing,
+        code: 5,
+        lines: &[],
+        fault: r#"{"unsupported":{"name":"deletionVectors"}}"#,
+    },
+    Case {
+        name: "a retention of months is no interval",
+        commits: &[&[PROTOCOL, KEPT_FOR_MONTHS, VECTOR_A], &[REMOVE_A]],
+        words: &["show"],
+        fails: Fails::Nothing,
+        code: 5,
+        lines: &[],
+        fault: r#"{"unsupported":{"name":"delta.deletedFileRetentionDuration"}}"#,
+    },
+    Case {
+        name: "the table's own retention decides which removals are shown",
+        commits: &[&[PROTOCOL, KEPT_A_SECOND, ADD_A], &[REMOVE_A]],
+        words: &["show"],
+        fails: Fails::Nothing,
+        code: 0,
+        lines: &[SNAPSHOT_1, PROTOCOL, KEPT_A_SECOND],
+        fault: "",
     },
     Case {
         name: "a sink that fails at once takes nothing",
