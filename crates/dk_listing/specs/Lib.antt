@@ -1,0 +1,5 @@
+pub mod Entries
+pub mod Latest
+pub mod Newest
+pub mod Parts
+pub mod Presence
