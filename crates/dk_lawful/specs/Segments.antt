@@ -5,7 +5,6 @@ use Rattle.std.specs.Option.{option_or}
 use Rattle.dk_paths.specs.Names.{commit_path}
 use Rattle.dk_paths.specs.Places.{Place, Commit_at, Staged, place_path}
 use Rattle.dk_paths.specs.Staged.{staged_of}
-use Rattle.dk_lawful.specs.declared.segment.CheckpointRef.{CheckpointRef}
 use Rattle.dk_lawful.specs.declared.segment.Choice.{Choice}
 use Rattle.dk_lawful.specs.declared.segment.Step.{Step}
 use Rattle.dk_lawful.specs.declared.segment.Step.TheVariants.{Commit}
