@@ -8,3 +8,6 @@ mod known;
 mod walk;
 
 pub use choosing::choose;
+
+#[cfg(test)]
+mod tests;
