@@ -1,5 +1,5 @@
 -- Two tests of places, and two maps of standing names, that agree where a version needs them give it one segment.
-use Rattle.std.proofs.Common.{◌≡◌, ℕ, suc, zero, ◌+◌, ◌<◌, ◌≤◌, ◌^◌, Bool, true, false, List, refl, ap, ap₂, sym, subst, ◌∙◌, arith, if◌then◌else◌, inl, inr}
+use Rattle.std.proofs.Common.{◌≡◌, ℕ, suc, zero, ◌+◌, ◌<◌, ◌≤◌, ◌^◌, Bool, List, refl, ap, ap₂, subst, ◌∙◌, arith, if◌then◌else◌, inl, inr}
 use Rattle.std.specs.Prelude.{Option, Some, None, option_map, option_and_then, is_some, Result, Ok, Err}
 use Rattle.std.proofs.lemmas.Bool.Decides.{eqb_tells}
 use Rattle.dk_store.specs.Told.{Told}
@@ -88,7 +88,7 @@ place_alike : (present other : Place → Bool) (ratified other_ratified : ℕ �
 place_alike present other ratified other_ratified staged_first version agree =
     ap₂ (preferred staged_first)
     (ap (λ (name : Option (List ℕ)). option_and_then (λ id. if_present present (Staged version id)) (option_and_then (id_named version) name)) agree.name
-      ∙ named_alike present other version agree.staged (other_ratified version))
+    ∙ named_alike present other version agree.staged (other_ratified version))
     (ap (λ (there : Bool). if there then Some (Commit_at version) else None) agree.commit)
 
 steps_alike : (place_at other : ℕ → Option Place) (v count : ℕ) → ((w : ℕ) → w < v + count → place_at w ≡ other w) → steps_from place_at v count ≡ steps_from other v count
