@@ -12,3 +12,4 @@ pub mod MoreExamples
 pub mod Permits
 pub mod Present
 pub mod Rules
+pub mod Segments

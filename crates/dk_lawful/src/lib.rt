@@ -3,9 +3,11 @@
 #![tactic(auto)]
 
 mod laws;
+mod segment;
 
 pub use laws::{
     calls_keep_the_law, example_goes_on, example_histories, example_is_lawful, forbidden_events,
     history_only_grows, log_is_the_history, needed_stays, next_commit_is_added,
     permitted_one_by_one, ratified_stays,
 };
+pub use segment::{CheckpointRef, Checkpoints, Choice, Segment, Step, StepList};

@@ -1,0 +1,3 @@
+pub mod PartSets
+pub mod Small
+pub mod Standing

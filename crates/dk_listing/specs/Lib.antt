@@ -1,0 +1,6 @@
+pub mod Entries
+pub mod Latest
+pub mod Newest
+pub mod OfEvents
+pub mod Parts
+pub mod Presence

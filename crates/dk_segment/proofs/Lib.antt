@@ -1,0 +1,4 @@
+pub mod Agree
+pub mod Sets
+pub mod Steps
+pub mod Walks

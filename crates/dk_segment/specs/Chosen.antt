@@ -1,0 +1,16 @@
+-- What a version is read from, or the commit that is missing.
+use Rattle.std.specs.Prelude.{ℕ, Bool, Option, Some, None, Result, Ok, Err, List}
+use Rattle.dk_paths.specs.Places.{Place}
+use Rattle.dk_lawful.specs.declared.segment.Choice.{Choice}
+use Rattle.dk_lawful.specs.declared.segment.Segment.{Segment}
+use Rattle.dk_lawful.specs.Segments.{segment_of, first_gap}
+use Rattle.dk_engine.specs.declared.refusal.Refusal.{Refusal}
+use Rattle.dk_engine.specs.declared.refusal.Refusal.TheVariants.{Missing}
+
+abbrev pub unless_gap : Segment → Option (List ℕ) → Result Segment Refusal
+unless_gap segment None = Ok segment
+unless_gap segment (Some path) = Err (Missing path)
+
+-- the segment of a version, where each commit of it is there; else the path of the first that isn't
+abbrev pub chosen : (Place → Bool) → (ℕ → Option (List ℕ)) → ℕ → Choice → Result Segment Refusal
+chosen present ratified version choice = unless_gap (segment_of present ratified version choice) (first_gap present ratified version choice)

@@ -1,0 +1,50 @@
+-- A listing as sets and a map of versions.
+use Rattle.std.specs.Prelude.{ℕ, ◌≡◌, Bool, false, Option, List, option_map, map}
+use Rattle.std.specs.Borrow.{Bor}
+use Rattle.std.specs.Ordering.{nat_cmp, ordering_then}
+use Rattle.std.specs.declared.cmp.Ordering.{Ordering}
+use Rattle.std.specs.BTreeSet.{BTreeSet, contains}
+use Rattle.std.specs.BTreeMap.{BTreeMap, get}
+use Rattle.dk_store.specs.declared.event.Ratification.{Ratification}
+use Rattle.dk_store.specs.Views.{ratification}
+use Rattle.dk_paths.specs.Places.{Place, Commit_at, Staged}
+use Rattle.dk_listing.specs.declared.catalogued.Catalogued.{Catalogued}
+use Rattle.dk_listing.specs.declared.named.Named.{Named}
+use Rattle.dk_listing.specs.declared.named.Staged as entries
+use Rattle.dk_listing.specs.Presence.{lists_in_log, lists_staged, name_at}
+use Rattle.dk_segment.specs.declared.known.Known.{Known}
+
+-- by version, then by UUID
+abbrev pub staged_cmp : ℕ × ℕ → ℕ × ℕ → Ordering
+staged_cmp x y = ordering_then (nat_cmp x.0 y.0) (nat_cmp x.1 y.1)
+
+-- the set has the versions whose commits are listed
+abbrev pub HasCommits : BTreeSet ℕ → List Named → Type 0
+HasCommits set log = (version : ℕ) → contains nat_cmp set version ≡ lists_in_log log (Commit_at version)
+
+-- the set has the staged commits that are listed
+abbrev pub HasStaged : BTreeSet (ℕ × ℕ) → List entries.Staged → Type 0
+HasStaged set staged = (version id : ℕ) → contains staged_cmp set (version, id) ≡ lists_staged staged version id
+
+-- the name that a map has at a version
+abbrev pub name_in : BTreeMap ℕ (Bor (List ℕ)) → ℕ → Option (List ℕ)
+name_in names version = option_map (λ name. name.now) (get nat_cmp names version)
+
+-- the map has the name under which each version stands ratified
+abbrev pub HasNames : BTreeMap ℕ (Bor (List ℕ)) → List Ratification → Type 0
+HasNames names ratified = (version : ℕ) → name_in names version ≡ name_at (map ratification ratified) version
+
+-- the places that are known to have an object
+abbrev pub has_place : Known → Place → Bool
+has_place known (Commit_at version) = contains nat_cmp known.published version
+has_place known (Staged version id) = contains staged_cmp known.staged (version, id)
+has_place known _ = false
+
+abbrev pub has_name : Known → ℕ → Option (List ℕ)
+has_name known version = name_in known.ratified version
+
+-- all of it is that of the listing
+pub record Knows (known : Known) (listing : Catalogued) : Type 0 where
+  pub published : HasCommits known.published listing.log.items
+  pub staged : HasStaged known.staged listing.staged.items
+  pub ratified : HasNames known.ratified listing.ratified.items

@@ -1,0 +1,23 @@
+-- The walk over the versions, one by one.
+use Rattle.std.specs.Prelude.{ℕ, Option, Some, None, Result, Ok, Err, List}
+use Rattle.dk_paths.specs.Names.{commit_path}
+use Rattle.dk_paths.specs.Places.{Place, Commit_at, Staged}
+use Rattle.dk_lawful.specs.declared.segment.Step.{Step}
+use Rattle.dk_lawful.specs.Segments.{steps_from, gap_from}
+use Rattle.dk_engine.specs.declared.refusal.Refusal.{Refusal}
+use Rattle.dk_engine.specs.declared.refusal.Refusal.TheVariants.{Missing}
+use Rattle.dk_segment.specs.declared.known.Source.{Source}
+use Rattle.dk_segment.specs.declared.known.Source.TheVariants as sources
+
+-- the place that a version's commit is read from
+abbrev pub source_place : ℕ → Source → Place
+source_place version sources.Published = Commit_at version
+source_place version (sources.Staged id) = Staged version id
+
+abbrev pub unless_absent : List Step → Option ℕ → Result (List Step) Refusal
+unless_absent steps None = Ok steps
+unless_absent steps (Some version) = Err (Missing (commit_path version))
+
+-- the steps of the first versions, or the first of them whose commit isn't there
+abbrev pub walked : (ℕ → Option Place) → ℕ → Result (List Step) Refusal
+walked place_at count = unless_absent (steps_from place_at 0 count) (gap_from place_at 0 count)
