@@ -6,6 +6,7 @@ pub mod NestedSpellings
 pub mod Plain
 pub mod Runs
 pub mod Spellings
+pub mod StructSpellings
 mod ThriftExamples
 pub mod Varints
 pub mod WithinLaws

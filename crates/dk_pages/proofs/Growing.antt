@@ -2,8 +2,9 @@
 use Rattle.std.proofs.Common.{◌≡◌, Bool, true, false, ℤ, pos, Option, Some, None, [], ◌∷◌, ◌++◌, refl, sym, ap, ◌∙◌, append_assoc, unwrap_or}
 use Rattle.std.proofs.lemmas.List.{append-nil}
 use Rattle.std.specs.Ordering.{int_eq}
-use Rattle.dk_pages.specs.Structs.{Listed, under, when, first_of_two, last_under}
-use Rattle.dk_pages.specs.Headers.{Part, number, inner, own_number, own_inner, numbers_in, inners_in, numbers_of, fields_of, with_number, with_part}
+use Rattle.dk_grammar.specs.Structs.{Listed, under, when, first_of_two, last_under}
+use Rattle.dk_grammar.specs.PageHeaders.{Part, number, inner, own_number, own_inner, numbers_in, inners_in}
+use Rattle.dk_pages.specs.Headers.{numbers_of, fields_of, with_number, with_part}
 
 or_none : {V : Type 0} (o : Option V) → o ≡ first_of_two o None
 or_none (Some x) = refl

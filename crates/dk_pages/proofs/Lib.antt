@@ -2,6 +2,5 @@ pub mod Growing
 pub mod Meanings
 pub mod PageExamples
 pub mod PageSpellings
-pub mod StructSpellings
 pub mod Taking
 pub mod Walking

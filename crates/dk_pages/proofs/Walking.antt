@@ -6,7 +6,7 @@ use Rattle.dk_grammar.specs.declared.thrift.Field.{Field}
 use Rattle.dk_grammar.specs.declared.thrift.Field.TheVariants.{End, Next}
 use Rattle.dk_grammar.specs.declared.thrift.Flaw.{Flaw}
 use Rattle.dk_thrift.specs.Reading.{Reading, last_behind}
-use Rattle.dk_pages.specs.Structs.{Listed, Meaning, under, field_then, fields_from}
+use Rattle.dk_grammar.specs.Structs.{Listed, Meaning, under, field_then, fields_from}
 use Rattle.dk_pages.specs.Found.{after, Walks}
 
 left_over : (n i : ℕ) → i < n → n - i ≡ suc (n - (i + 1))

@@ -9,9 +9,8 @@ use Rattle.dk_grammar.specs.declared.thrift.Field.TheVariants.{End, Next}
 use Rattle.dk_grammar.proofs.Fronts.{choice, bound, ok_is}
 use Rattle.dk_grammar.proofs.Spellings.{fields, wholes, short_is_not_ok}
 use Rattle.dk_grammar.proofs.NestedSpellings.{values}
-use Rattle.dk_pages.specs.Structs.{Listed, Meaning, under, field_then, fields_from, struct_at, is_whole, number_meaning}
-use Rattle.dk_pages.specs.Headers.{Part, number, inner, is_inner, part_meaning}
-use Rattle.dk_pages.specs.Spelled.{SpellsFields, SpellsStruct, SpellsNumberField, SpellsPart, SpellsHeader}
+use Rattle.dk_grammar.specs.Structs.{Listed, Meaning, under, field_then, fields_from, struct_at, is_whole, number_meaning, SpellsFields, SpellsStruct, SpellsNumberField}
+use Rattle.dk_grammar.specs.PageHeaders.{Part, number, inner, is_inner, part_meaning, SpellsPart, SpellsHeader}
 
 joined : (bytes front middle more rest : List ℕ) → bytes ≡ front ++ middle → middle ≡ more ++ rest → bytes ≡ (front ++ more) ++ rest
 joined bytes front middle more rest e f = e ∙ ap (λ x. front ++ x) f ∙ sym (append_assoc front more rest)
