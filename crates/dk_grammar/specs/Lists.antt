@@ -60,3 +60,10 @@ held_in (x ∷ xs) = own_held x.0 x.1 ++ held_in xs
 abbrev pub others_in : {A B : Type 0} → Listed (Either A B) → Listed B
 others_in [] = []
 others_in (x ∷ xs) = own_other x.0 x.1 ++ others_in xs
+
+-- what is read, turned by a function
+abbrev pub turned : {A B : Type 0} → (A → B) → (List ℕ → Front A) → List ℕ → Front B
+turned f read bytes = read bytes >>= λ x. Ok (f x.0, x.1)
+
+abbrev pub SpelledBy : {A B : Type 0} → (A → B) → (List ℕ → A → Type 0) → List ℕ → B → Type 0
+SpelledBy {A} f spells bytes y = (x : A) × spells bytes x × (y ≡ f x)

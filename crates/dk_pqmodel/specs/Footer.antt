@@ -64,6 +64,13 @@ abbrev pub optional : {A B : Type 0} → (A → Option B) → Option A → Optio
 optional f None = Some None
 optional f (Some x) = option_map Some (f x)
 
+-- each turned; none where one can't be
+abbrev pub each_of : {A B : Type 0} → (A → Option B) → List A → Option (List B)
+each_of f [] = Some []
+each_of f (x ∷ xs) = f x >= λ y. option_map (λ ys. y ∷ ys) (each_of f xs)
+
+-- ---- the fields of structs, by their names
+
 -- the value that a struct holds in the field of an id, and a number in one; of several it is the last
 abbrev pub held_under : {A B : Type 0} → ℤ → Listed (Either A B) → Option A
 held_under id fields = last_under id (held_in fields)
@@ -71,42 +78,89 @@ held_under id fields = last_under id (held_in fields)
 abbrev pub number_under : {A : Type 0} → ℤ → Listed (Either A ℤ) → Option ℤ
 number_under id fields = last_under id (others_in fields)
 
--- each turned; none where one can't be
-abbrev pub each_of : {A B : Type 0} → (A → Option B) → List A → Option (List B)
-each_of f [] = Some []
-each_of f (x ∷ xs) = f x >= λ y. option_map (λ ys. y ∷ ys) (each_of f xs)
+-- ColumnMetaData
+pub record MetaFields : Type 0 where
+  pub physical : Option ℤ
+  pub path : Option Path
+  pub codec : Option ℤ
+  pub values : Option ℤ
+  pub first_page : Option ℤ
+  pub dictionary_page : Option ℤ
+
+abbrev pub meta_fields : Listed (Either Path ℤ) → MetaFields
+meta_fields fields = record {
+  physical = number_under (pos 1) fields;
+  path = held_under (pos 3) fields;
+  codec = number_under (pos 4) fields;
+  values = number_under (pos 5) fields;
+  first_page = number_under (pos 9) fields;
+  dictionary_page = number_under (pos 11) fields;
+}
+
+-- ColumnChunk: its metadata
+pub record ChunkFields : Type 0 where
+  pub metadata : Option MetaFields
+
+abbrev pub chunk_fields : Listed (Either MetaFields ℤ) → ChunkFields
+chunk_fields fields = record { metadata = held_under (pos 3) fields }
+
+-- RowGroup
+pub record GroupFields : Type 0 where
+  pub columns : Option (List ChunkFields)
+  pub rows : Option ℤ
+
+abbrev pub group_fields : Listed (Either (List ChunkFields) ℤ) → GroupFields
+group_fields fields = record { columns = held_under (pos 1) fields; rows = number_under (pos 3) fields }
+
+-- SchemaElement
+pub record ElementFields : Type 0 where
+  pub physical : Option ℤ
+  pub repetition : Option ℤ
+  pub name : Option (List ℕ)
+  pub children : Option ℤ
+
+abbrev pub element_fields : Listed (Either (List ℕ) ℤ) → ElementFields
+element_fields fields = record {
+  physical = number_under (pos 1) fields;
+  repetition = number_under (pos 3) fields;
+  name = held_under (pos 4) fields;
+  children = number_under (pos 5) fields;
+}
+
+-- FileMetaData
+pub record FileFields : Type 0 where
+  pub schema : Option (List ElementFields)
+  pub rows : Option ℤ
+  pub groups : Option (List GroupFields)
+
+abbrev pub file_fields : Listed (Either (List ElementFields) (Either (List GroupFields) ℤ)) → FileFields
+file_fields fields = record {
+  schema = held_under (pos 2) fields;
+  rows = number_under (pos 3) (others_in fields);
+  groups = held_under (pos 4) (others_in fields);
+}
 
 -- ---- row groups
 
--- the fields of ColumnMetaData, ColumnChunk and RowGroup
-abbrev pub MetaFields : Type 0
-MetaFields = Listed (Either Path ℤ)
+abbrev pub chunk_with : Path → ℤ → ℤ → ℕ → ℕ → Option ℕ → Path × Chunk
+chunk_with path physical codec values first_page dictionary_page =
+    (path, record { physical = physical; codec = codec; values = values; first_page = first_page; dictionary_page = dictionary_page })
 
-abbrev pub ChunkFields : Type 0
-ChunkFields = Listed (Either MetaFields ℤ)
-
-abbrev pub GroupFields : Type 0
-GroupFields = Listed (Either (List ChunkFields) ℤ)
-
--- ColumnMetaData: type, path, codec, values, first data page, dictionary page
+-- a chunk with its column's path, where all is there but perhaps the dictionary page
 abbrev pub column_of : MetaFields → Option (Path × Chunk)
-column_of fields =
-    held_under (pos 3) fields >= λ path. number_under (pos 1) fields >= int32 >= λ physical. number_under (pos 4) fields >= int32 >= λ codec.
-    number_under (pos 5) fields >= natural >= λ values. number_under (pos 9) fields >= natural >= λ first_page. Some (
-      path,
-      record { physical = physical; codec = codec; values = values; first_page = first_page; dictionary_page = number_under (pos 11) fields >= place_of },
-    )
+column_of meta =
+    meta.path >= λ path. meta.physical >= int32 >= λ physical. meta.codec >= int32 >= λ codec. meta.values >= natural >= λ values.
+    meta.first_page >= natural >= λ first_page. Some (chunk_with path physical codec values first_page (meta.dictionary_page >= place_of))
 
--- ColumnChunk: metadata
 abbrev pub chunk_of : ChunkFields → Option (Path × Chunk)
-chunk_of fields = held_under (pos 3) fields >= column_of
+chunk_of chunk = chunk.metadata >= column_of
 
 abbrev pub is_path : Path → Path → Bool
 is_path = pointwise bytes_eq
 
 abbrev pub has_path : Path → List (Path × Chunk) → Bool
 has_path path [] = false
-has_path path (c ∷ cs) = is_path (c.0) path || has_path path cs
+has_path path (c ∷ cs) = is_path path c.0 || has_path path cs
 
 -- no two chunks of one path, in the order of the file
 abbrev pub is_new_each : List (Path × Chunk) → List (Path × Chunk) → Bool
@@ -116,23 +170,17 @@ is_new_each before (c ∷ cs) = not (has_path (c.0) before) && is_new_each (befo
 abbrev pub if_distinct : List (Path × Chunk) → Option (List (Path × Chunk))
 if_distinct columns = if is_new_each [] columns then Some columns else None
 
--- RowGroup: columns, rows
 abbrev pub group_of : GroupFields → Option RowGroup
-group_of fields =
-    held_under (pos 1) fields >= λ chunks. each_of chunk_of chunks >= if_distinct >= λ columns. number_under (pos 3) fields >= natural >= λ rows.
-    Some (record { rows = rows; columns = columns })
+group_of group =
+    group.columns >= each_of chunk_of >= if_distinct >= λ columns. group.rows >= natural >= λ rows. Some (record { rows = rows; columns = columns })
 
 -- ---- the schema
 
--- the fields of SchemaElement
-abbrev pub ElementFields : Type 0
-ElementFields = Listed (Either (List ℕ) ℤ)
-
--- SchemaElement: name, type, children, repetition
+-- a name is needed; an element that says no number of children has none
 abbrev pub element_of : ElementFields → Option Element
-element_of fields =
-    held_under (pos 4) fields >= λ name. optional int32 (number_under (pos 1) fields) >= λ physical. optional natural32 (number_under (pos 5) fields) >= λ children.
-    Some (record { name = name; repetition = number_under (pos 3) fields; physical = physical; children = unwrap_or children 0 })
+element_of element =
+    element.name >= λ name. optional int32 element.physical >= λ physical. optional natural32 element.children >= λ children.
+    Some (record { name = name; repetition = element.repetition; physical = physical; children = unwrap_or children 0 })
 
 abbrev pub count_of : FileNodes → ℕ
 count_of no_nodes = 0
@@ -183,14 +231,10 @@ pub record IsTree (elements : List Element) (fields : FileNodes) : Type 0 where
 
 -- ---- the whole
 
--- the fields of FileMetaData
-abbrev pub FileFields : Type 0
-FileFields = Listed (Either (List ElementFields) (Either (List GroupFields) ℤ))
-
--- FileMetaData: schema, row groups, rows
-pub record MeansFooter (fields : FileFields) (footer : Footer) : Type 0 where
+-- what the fields of a FileMetaData mean
+pub record MeansFooter (file : FileFields) (footer : Footer) : Type 0 where
   pub elements : List Element
-  pub schema : (held_under (pos 2) fields >= each_of element_of) ≡ Some elements
+  pub schema : (file.schema >= each_of element_of) ≡ Some elements
   pub tree : IsTree elements footer.fields
-  pub groups : (held_under (pos 4) (others_in fields) >= each_of group_of) ≡ Some footer.groups
-  pub rows : (number_under (pos 3) (others_in fields) >= natural) ≡ Some footer.rows
+  pub groups : (file.groups >= each_of group_of) ≡ Some footer.groups
+  pub rows : (file.rows >= natural) ≡ Some footer.rows

@@ -3,10 +3,10 @@ use Rattle.std.specs.Prelude.{◌≡◌, ◌<◌, ◌^◌, ℕ, IsTrue, ℤ, pos
 use Rattle.std.specs.Str.{is_utf8}
 use Rattle.dk_grammar.specs.Grammar.{SpellsBinary}
 use Rattle.dk_grammar.specs.Structs.{SpellsStruct, SpellsNumberField}
-use Rattle.dk_grammar.specs.Lists.{SpellsListOf, SpellsHeldOr}
+use Rattle.dk_grammar.specs.Lists.{SpellsListOf, SpellsHeldOr, SpelledBy}
 use Rattle.dk_grammar.specs.Plain.{little}
 use Rattle.dk_pqmodel.specs.Laid.{Path}
-use Rattle.dk_pqmodel.specs.Footer.{Footer, MetaFields, ChunkFields, GroupFields, ElementFields, FileFields, MeansFooter}
+use Rattle.dk_pqmodel.specs.Footer.{Footer, MetaFields, meta_fields, ChunkFields, chunk_fields, GroupFields, group_fields, ElementFields, element_fields, FileFields, file_fields, MeansFooter}
 
 -- a name is UTF-8
 abbrev pub SpellsName : List ℕ → List ℕ → Type 0
@@ -18,20 +18,20 @@ abbrev pub SpellsPath : List ℕ → Path → Type 0
 SpellsPath = SpellsListOf 8 SpellsName
 
 abbrev pub SpellsMeta : List ℕ → MetaFields → Type 0
-SpellsMeta = SpellsStruct (SpellsHeldOr (pos 3) 9 SpellsPath SpellsNumberField)
+SpellsMeta = SpelledBy meta_fields (SpellsStruct (SpellsHeldOr (pos 3) 9 SpellsPath SpellsNumberField))
 
 abbrev pub SpellsChunk : List ℕ → ChunkFields → Type 0
-SpellsChunk = SpellsStruct (SpellsHeldOr (pos 3) 12 SpellsMeta SpellsNumberField)
+SpellsChunk = SpelledBy chunk_fields (SpellsStruct (SpellsHeldOr (pos 3) 12 SpellsMeta SpellsNumberField))
 
 abbrev pub SpellsGroup : List ℕ → GroupFields → Type 0
-SpellsGroup = SpellsStruct (SpellsHeldOr (pos 1) 9 (SpellsListOf 12 SpellsChunk) SpellsNumberField)
+SpellsGroup = SpelledBy group_fields (SpellsStruct (SpellsHeldOr (pos 1) 9 (SpellsListOf 12 SpellsChunk) SpellsNumberField))
 
 abbrev pub SpellsElement : List ℕ → ElementFields → Type 0
-SpellsElement = SpellsStruct (SpellsHeldOr (pos 4) 8 SpellsName SpellsNumberField)
+SpellsElement = SpelledBy element_fields (SpellsStruct (SpellsHeldOr (pos 4) 8 SpellsName SpellsNumberField))
 
 abbrev pub SpellsMetaData : List ℕ → FileFields → Type 0
 SpellsMetaData =
-    SpellsStruct (SpellsHeldOr (pos 2) 9 (SpellsListOf 12 SpellsElement) (SpellsHeldOr (pos 4) 9 (SpellsListOf 12 SpellsGroup) SpellsNumberField))
+    SpelledBy file_fields (SpellsStruct (SpellsHeldOr (pos 2) 9 (SpellsListOf 12 SpellsElement) (SpellsHeldOr (pos 4) 9 (SpellsListOf 12 SpellsGroup) SpellsNumberField)))
 
 -- the bytes are a FileMetaData, all of them, and this is what it says
 abbrev pub SpellsFooter : List ℕ → Footer → Type 0
