@@ -4,7 +4,7 @@ use Rattle.dk_grammar.specs.Grammar.{SpellsField, SpellsWhole}
 use Rattle.dk_grammar.specs.Nested.{Behind, SpellsValue}
 use Rattle.dk_grammar.specs.declared.thrift.Field.TheVariants.{End, Next}
 use Rattle.dk_grammar.specs.Structs.{Listed, under, is_whole}
-use Rattle.dk_grammar.specs.PageHeaders.{Part, number, inner, is_inner}
+use Rattle.dk_grammar.specs.PageHeaders.{Part, SpellsHeader}
 use Rattle.dk_pages.specs.Headers.{fields_of, header_of}
 use Rattle.dk_pages.specs.Pages.{Page, page_with}
 use Rattle.dk_pages.specs.declared.header.Header.{Header}

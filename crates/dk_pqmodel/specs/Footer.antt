@@ -142,15 +142,15 @@ file_fields fields = record {
 
 -- ---- row groups
 
-abbrev pub chunk_with : Path → ℤ → ℤ → ℕ → ℕ → Option ℕ → Path × Chunk
-chunk_with path physical codec values first_page dictionary_page =
-    (path, record { physical = physical; codec = codec; values = values; first_page = first_page; dictionary_page = dictionary_page })
+-- a chunk, where all is there but perhaps the dictionary page
+abbrev pub chunk_in : MetaFields → Option Chunk
+chunk_in meta =
+    meta.physical >= int32 >= λ physical. meta.codec >= int32 >= λ codec. meta.values >= natural >= λ values. meta.first_page >= natural >= λ first_page.
+    Some (record { physical = physical; codec = codec; values = values; first_page = first_page; dictionary_page = meta.dictionary_page >= place_of })
 
--- a chunk with its column's path, where all is there but perhaps the dictionary page
+-- with its column's path
 abbrev pub column_of : MetaFields → Option (Path × Chunk)
-column_of meta =
-    meta.path >= λ path. meta.physical >= int32 >= λ physical. meta.codec >= int32 >= λ codec. meta.values >= natural >= λ values.
-    meta.first_page >= natural >= λ first_page. Some (chunk_with path physical codec values first_page (meta.dictionary_page >= place_of))
+column_of meta = chunk_in meta >= λ chunk. meta.path >= λ path. Some (path, chunk)
 
 abbrev pub chunk_of : ChunkFields → Option (Path × Chunk)
 chunk_of chunk = chunk.metadata >= column_of
@@ -196,19 +196,23 @@ abbrev mutual
   flat_of no_nodes = []
   flat_of (one_node n ns) = flat n ++ flat_of ns
 
--- whether a node has the name
-abbrev pub is_named : List ℕ → FileNodes → Bool
-is_named name no_nodes = false
-is_named name (one_node n ns) = bytes_eq name (node_name n) || is_named name ns
+abbrev pub has_name : List ℕ → List (List ℕ) → Bool
+has_name name [] = false
+has_name name (n ∷ ns) = bytes_eq name n || has_name name ns
+
+-- no two nodes of one name: each name is new, behind those before
+abbrev pub are_new : List (List ℕ) → FileNodes → Bool
+are_new before no_nodes = true
+are_new before (one_node n ns) = not (has_name (node_name n) before) && are_new (before ++ (node_name n ∷ [])) ns
 
 -- each repetition is one of the three, and no two fields of a group have one name
 abbrev mutual
   pub is_sound : FileNode → Bool
-  is_sound (file_node name repetition physical children) = nat_le repetition 2 && are_sound children
+  is_sound (file_node name repetition physical children) = nat_le repetition 2 && are_new [] children && are_sound children
 
   pub are_sound : FileNodes → Bool
   are_sound no_nodes = true
-  are_sound (one_node n ns) = is_sound n && not (is_named (node_name n) ns) && are_sound ns
+  are_sound (one_node n ns) = is_sound n && are_sound ns
 
 abbrev mutual
   pub levels_in : FileNode → ℕ
@@ -226,6 +230,7 @@ pub record IsTree (elements : List Element) (fields : FileNodes) : Type 0 where
   pub root : Element
   pub whole : elements ≡ root ∷ flat_of fields
   pub count : root.children ≡ count_of fields
+  pub distinct : IsTrue (are_new [] fields)
   pub sound : IsTrue (are_sound fields)
   pub levels : levels_of fields ≤ most_file_levels
 

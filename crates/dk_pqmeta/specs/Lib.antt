@@ -1,0 +1,4 @@
+pub mod Found
+pub mod Kept
+pub mod Readings
+pub mod View
