@@ -1,10 +1,17 @@
 //! What a footer says of a row group.
 
+ghost use Rattle.std.specs.Prelude.{[], map};
+ghost use Rattle.dk_pqmeta.specs.Kept.{chunk_kept};
+ghost use Rattle.dk_pqmeta.specs.View.{Makes, column_view, columns_behind};
+
 use crate::chunk::ColumnChunk;
 use crate::fault::MetaFault;
+use crate::footer::{Chunk, RowGroup};
+use crate::numbers::natural;
 use crate::structs::{Record, read_structs};
 use crate::values::{LIST, is_held, read_number};
 use dk_thrift::Reader;
+use indexmap::IndexMap;
 use std::alloc::Global;
 
 /// The fields of a RowGroup that are read.
@@ -65,4 +72,44 @@ impl Record for Group {
         }
         Ok(())
     }
+}
+
+impl Group {
+    ghost use Rattle.dk_pqmodel.specs.Footer.{group_of};
+    ghost use Rattle.dk_pqmeta.specs.Kept.{group_kept};
+    ghost use Rattle.dk_pqmeta.specs.View.{Makes, group_view};
+
+    /// The row group with its chunks by path.
+    pub fn into_row_group(self, alloc: Global) -> Result<RowGroup, MetaFault>
+        ensures { Makes group_view result (group_of (group_kept self)) }
+    {
+        let Group { columns, rows } = self;
+        let Some(chunks) = columns else {
+            return Err(MetaFault::Broken);
+        };
+        let columns = columns_by_path(alloc, chunks)?;
+        match natural(rows) {
+            Some(rows) => Ok(RowGroup { rows, columns }),
+            None => Err(MetaFault::Broken),
+        }
+    }
+}
+
+/// The chunks by their paths, where no two have one path.
+fn columns_by_path(
+    alloc: Global,
+    chunks: Vec<ColumnChunk>,
+) -> Result<IndexMap<Vec<String>, Chunk>, MetaFault>
+    ensures { Makes (λ m. map column_view m.entries) result (columns_behind [] (map chunk_kept chunks.items)) }
+{
+    let mut columns = IndexMap::new(alloc);
+    for chunk in chunks {
+        let Some((path, chunk)) = chunk.into_column() else {
+            return Err(MetaFault::Broken);
+        };
+        if columns.insert(path, chunk)?.is_some() {
+            return Err(MetaFault::Broken);
+        }
+    }
+    Ok(columns)
 }

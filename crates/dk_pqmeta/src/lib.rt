@@ -6,10 +6,14 @@ mod element;
 mod fault;
 mod file;
 mod footer;
+mod frame;
 mod group;
 mod metadata;
 mod numbers;
+mod read;
 mod structs;
+mod tree;
 mod values;
 
 pub use footer::{Chunk, FileNode, Footer, RowGroup};
+pub use read::read_footer;

@@ -1,5 +1,5 @@
 -- What the footer of a Parquet file says (parquet.thrift, FileMetaData), from the fields of its structs by id.
-use Rattle.std.specs.Prelude.{◌≡◌, ◌≤◌, ◌<◌, ◌==◌, ◌^◌, ◌+◌, ℕ, max, nat_le, nat_lt, int_le, Bool, true, false, ◌&&◌, ◌||◌, not, if◌then◌else◌, IsTrue, ℤ, pos, negsuc, Option, Some, None, option_map, option_and_then, unwrap_or, List, [], ◌∷◌, ◌++◌}
+use Rattle.std.specs.Prelude.{◌≡◌, ◌≤◌, ◌<◌, ◌==◌, ◌^◌, ◌+◌, ℕ, suc, max, nat_le, nat_lt, int_le, Bool, true, false, ◌&&◌, ◌||◌, not, if◌then◌else◌, IsTrue, ℤ, pos, negsuc, Option, Some, None, option_map, option_and_then, unwrap_or, List, [], ◌∷◌, ◌++◌}
 use Rattle.std.specs.Cmp.Lexicographic.{pointwise}
 use Rattle.std.specs.Str.{bytes_eq}
 use Rattle.dk_grammar.specs.Structs.{Listed, last_under}
@@ -176,15 +176,19 @@ group_of group =
 
 -- ---- the schema
 
--- a name is needed; an element that says no number of children has none
+-- an element that says no number of children has none
+abbrev pub children_in : Option ℤ → Option ℕ
+children_in None = Some 0
+children_in (Some z) = natural32 z
+
 abbrev pub element_of : ElementFields → Option Element
 element_of element =
-    element.name >= λ name. optional int32 element.physical >= λ physical. optional natural32 element.children >= λ children.
-    Some (record { name = name; repetition = element.repetition; physical = physical; children = unwrap_or children 0 })
+    optional int32 element.physical >= λ physical. children_in element.children >= λ children. element.name >= λ name.
+    Some (record { name = name; repetition = element.repetition; physical = physical; children = children })
 
 abbrev pub count_of : FileNodes → ℕ
 count_of no_nodes = 0
-count_of (one_node n ns) = 1 + count_of ns
+count_of (one_node n ns) = suc (count_of ns)
 
 -- a node's element and then those of its children: the tree, depth first
 abbrev mutual
