@@ -12,6 +12,8 @@ mod metadata;
 mod numbers;
 mod read;
 mod structs;
+#[cfg(test)]
+mod tests;
 mod tree;
 mod values;
 
