@@ -2,6 +2,7 @@ pub mod Bodies
 pub mod Digits
 mod Examples
 pub mod Fronts
+pub mod LastUnder
 pub mod ListSpellings
 pub mod NestedSpellings
 pub mod Plain

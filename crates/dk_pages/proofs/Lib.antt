@@ -3,4 +3,3 @@ pub mod Meanings
 pub mod PageExamples
 pub mod PageSpellings
 pub mod Taking
-pub mod Walking

@@ -4,18 +4,11 @@ use Rattle.std.proofs.lemmas.List.{append-nil}
 use Rattle.dk_grammar.specs.Thrift.{Front, ◌>>=◌, list_at}
 use Rattle.dk_grammar.specs.Lists.{each_at, list_of}
 use Rattle.dk_grammar.specs.declared.thrift.Flaw.{Flaw}
-use Rattle.dk_pqmeta.specs.Found.{after}
+use Rattle.dk_thrift.specs.Walks.{after}
+use Rattle.dk_thrift.proofs.Walking.{flaw_stays}
 
 left_over : (n i : ℕ) → i < n → n - i ≡ suc (n - (i + 1))
 left_over n i h = omega arith
-
-pub flaw_stays : {A B : Type 0} (r : Result A Flaw) (f : A → Result B Flaw) → IsErr r → IsErr (r >>= f)
-flaw_stays (Ok x) f h = cc
-flaw_stays (Err flaw) f h = refl
-
-pub nothing_done : {A : Type 0} (front : Front (List A)) → after [] front ≡ front
-nothing_done (Ok x) = refl
-nothing_done (Err flaw) = refl
 
 one_done : {A : Type 0} (done : List A) (x : A) (front : Front (List A)) → after done (front >>= λ more. Ok (x ∷ more.0, more.1)) ≡ after (done ++ (x ∷ [])) front
 one_done done x (Ok more) = ap (λ xs. Ok (xs, more.1)) (sym (append_assoc done (x ∷ []) more.0))

@@ -4,23 +4,12 @@ use Rattle.std.proofs.lemmas.Bool.{and_parts}
 use Rattle.std.proofs.lemmas.List.{append-nil}
 use Rattle.std.specs.Ordering.{int_eq}
 use Rattle.dk_grammar.specs.Thrift.{Front, ◌>>=◌}
+use Rattle.dk_grammar.proofs.LastUnder.{last_more}
 use Rattle.dk_grammar.specs.Structs.{Listed, Meaning, under, when, first_of_two, last_under, number_meaning}
 use Rattle.dk_grammar.specs.Lists.{Either, held, other, is_held, held_or, own_held, own_other, held_in, others_in}
 use Rattle.dk_pqmodel.specs.Footer.{held_under, number_under}
 use Rattle.dk_pqmeta.specs.Kept.{new_at}
-use Rattle.dk_pqmeta.proofs.Eaches.{flaw_stays}
-
-or_none : {V : Type 0} (o : Option V) → o ≡ first_of_two o None
-or_none (Some x) = refl
-or_none None = refl
-
-or_assoc : {V : Type 0} (a b c : Option V) → first_of_two (first_of_two a b) c ≡ first_of_two a (first_of_two b c)
-or_assoc (Some x) b c = refl
-or_assoc None b c = refl
-
-pub last_more : {V : Type 0} (k id : ℤ) (value : V) (xs : Listed V) → last_under k (xs ++ ((id, value) ∷ [])) ≡ new_at k id value (last_under k xs)
-last_more k id value [] = or_none (when (int_eq id k) value)
-last_more k id value (x ∷ xs) = ap (λ o. first_of_two o (when (int_eq x.0 k) x.1)) (last_more k id value xs) ∙ or_assoc (when (int_eq id k) value) (last_under k xs) (when (int_eq x.0 k) x.1)
+use Rattle.dk_thrift.proofs.Walking.{flaw_stays}
 
 pub held_more : {A B : Type 0} (done : Listed (Either A B)) (id : ℤ) (x : A) → held_in (done ++ ((id, held x) ∷ [])) ≡ held_in done ++ ((id, x) ∷ [])
 held_more [] id x = append-nil _

@@ -7,4 +7,3 @@ pub mod Helds
 pub mod Refused
 pub mod Texts
 pub mod Trees
-pub mod Walking

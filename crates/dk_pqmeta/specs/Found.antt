@@ -29,14 +29,3 @@ FindsOne Keeps old new (Err fault) front = Refuses fault front
 -- what is kept of the fields
 abbrev pub kept_front : {V K : Type 0} → (Listed V → K) → Front (Listed V) → Front K
 kept_front kept_of front = front >>= λ x. Ok (kept_of x.0, x.1)
-
--- values done, and then those of a front
-abbrev pub after : {A : Type 0} → List A → Front (List A) → Front (List A)
-after done front = front >>= λ x. Ok (done ++ x.0, x.1)
-
--- A walk along the fields of a struct: what is done, then what is left, is the whole.
-pub record Walks {V K : Type 0} (meaning : Meaning V) (kept_of : Listed V → K) (most : ℕ) (old new : Reading) (kept : K) (whole : Front (Listed V)) : Type 0 where
-  pub done : Listed V
-  pub seen : kept ≡ kept_of done
-  pub left : after done (fields_from meaning most new.last new.rest) ≡ whole
-  pub size : new.size ≡ old.size

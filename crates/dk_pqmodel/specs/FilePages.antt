@@ -1,5 +1,5 @@
 -- What the pages of a chunk hold: the triples of a column (Apache Parquet, "Data Pages", "Encodings").
-use Rattle.std.specs.Prelude.{◌≡◌, ◌≤◌, ◌<◌, ◌+◌, ◌*◌, ◌^◌, ◌==◌, ◌⊎◌, ◌↔◌, ℕ, Bool, true, false, IsTrue, ℤ, pos, Option, Some, None, List, [], ◌∷◌, ◌++◌, length, map, filter_map, replicate, is_some, slice_get, All}
+use Rattle.std.specs.Prelude.{◌≡◌, ◌≤◌, ◌<◌, ◌+◌, ◌*◌, ◌^◌, ◌==◌, ◌⊎◌, ◌↔◌, ℕ, Bool, true, false, IsTrue, ℤ, pos, Option, Some, None, List, [], ◌∷◌, ◌++◌, length, map, filter_map, replicate, is_some, slice_get, option_and_then, All}
 use Rattle.std.specs.Str.{is_utf8}
 use Rattle.dk_grammar.specs.Structs.{Listed, last_under}
 use Rattle.dk_grammar.specs.PageHeaders.{Part, numbers_in, inner_under, SpellsHeader}
@@ -9,6 +9,7 @@ use Rattle.dk_grammar.specs.Runs.{AreFirst}
 use Rattle.dk_pqmodel.specs.Shape.{Leaf, flag, int32, int64, chars}
 use Rattle.dk_pqmodel.specs.Datum as cell
 use Rattle.dk_pqmodel.specs.Datum.{Value, Entry, Column}
+use Rattle.dk_pqmodel.specs.Footer.{int32 as fits32}
 use Rattle.dk_pqmodel.specs.Laid.{Path}
 
 -- a column of the file: its path, what it holds, and its greatest levels
@@ -48,9 +49,9 @@ HoldLevels greatest levels bytes = ((greatest ≡ 0) × (levels ≡ replicate (l
 abbrev pub IsSized : ℕ → List ℕ → List ℕ → Type 0
 IsSized greatest bytes runs = ((greatest ≡ 0) × (bytes ≡ []) × (runs ≡ [])) ⊎ ((0 < greatest) × (length runs < 2 ^ 32) × (bytes ≡ little 4 (length runs) ++ runs))
 
--- a level's encoding is RLE, 3, and free where the greatest level is 0
+-- a level's encoding is a number of 32 bits: RLE, 3, and free where the greatest level is 0
 abbrev pub IsLevelCode : ℕ → Option ℤ → Type 0
-IsLevelCode greatest code = (z : ℤ) × (code ≡ Some z) × ((greatest ≡ 0) ⊎ (z ≡ pos 3))
+IsLevelCode greatest code = (z : ℤ) × (option_and_then fits32 code ≡ Some z) × ((greatest ≡ 0) ⊎ (z ≡ pos 3))
 
 -- ---- values
 

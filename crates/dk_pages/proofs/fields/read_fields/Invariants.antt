@@ -1,5 +1,5 @@
 use Rattle.std.proofs.Common.{◌-◌, length}
-use Rattle.dk_pages.specs.Found.{Walks}
+use Rattle.dk_thrift.specs.Walks.{Walks}
 use Rattle.dk_grammar.specs.Structs.{fields_from}
 use Rattle.dk_grammar.specs.PageHeaders.{part_meaning}
 use Rattle.dk_pages.specs.Headers.{fields_of}

@@ -1,5 +1,5 @@
 use Rattle.std.proofs.Common.{◌-◌, length}
-use Rattle.dk_pqmeta.specs.Found.{Walks}
+use Rattle.dk_thrift.specs.Walks.{Walks}
 use Rattle.dk_grammar.specs.Structs.{fields_from}
 use Rattle.dk_pqmeta.proofs.structs.read_fields.Given as goal
 

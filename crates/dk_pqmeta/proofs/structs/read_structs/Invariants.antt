@@ -1,7 +1,7 @@
 use Rattle.std.proofs.Common.{◌≡◌, ◌-◌, map}
 use Rattle.dk_grammar.specs.Structs.{struct_at}
 use Rattle.dk_grammar.specs.Lists.{each_at, list_of, turned}
-use Rattle.dk_pqmeta.specs.Found.{after}
+use Rattle.dk_thrift.specs.Walks.{after}
 use Rattle.dk_pqmeta.proofs.structs.read_structs.Given as goal
 
 abbrev pub invariant-loop : goal.invariant-loop

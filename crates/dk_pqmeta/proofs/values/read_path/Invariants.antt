@@ -1,7 +1,7 @@
 use Rattle.std.proofs.Common.{◌≡◌, ◌-◌, map, string_bytes}
 use Rattle.dk_grammar.specs.Lists.{each_at}
 use Rattle.dk_pqmeta.specs.Readings.{name_at, path_at}
-use Rattle.dk_pqmeta.specs.Found.{after}
+use Rattle.dk_thrift.specs.Walks.{after}
 use Rattle.dk_pqmeta.proofs.values.read_path.Given as goal
 
 abbrev pub invariant-loop : goal.invariant-loop
