@@ -1,10 +1,13 @@
 pub mod Digits
 pub mod Grammar
+pub mod Lists
 pub mod Nested
+pub mod PageHeaders
 pub mod Passed
 pub mod Plain
 pub mod Runs
 pub mod Spelling
+pub mod Structs
 pub mod Thrift
 pub mod Varint
 pub mod Within

@@ -2,20 +2,10 @@
 use Rattle.std.proofs.Common.{◌≡◌, Bool, true, false, ℤ, pos, Option, Some, None, [], ◌∷◌, ◌++◌, refl, sym, ap, ◌∙◌, append_assoc, unwrap_or}
 use Rattle.std.proofs.lemmas.List.{append-nil}
 use Rattle.std.specs.Ordering.{int_eq}
-use Rattle.dk_pages.specs.Structs.{Listed, under, when, first_of_two, last_under}
-use Rattle.dk_pages.specs.Headers.{Part, number, inner, own_number, own_inner, numbers_in, inners_in, numbers_of, fields_of, with_number, with_part}
-
-or_none : {V : Type 0} (o : Option V) → o ≡ first_of_two o None
-or_none (Some x) = refl
-or_none None = refl
-
-or_assoc : {V : Type 0} (a b c : Option V) → first_of_two (first_of_two a b) c ≡ first_of_two a (first_of_two b c)
-or_assoc (Some x) b c = refl
-or_assoc None b c = refl
-
-pub last_more : {V : Type 0} (k id : ℤ) (value : V) (xs : Listed V) → last_under k (xs ++ ((id, value) ∷ [])) ≡ first_of_two (when (int_eq id k) value) (last_under k xs)
-last_more k id value [] = or_none (when (int_eq id k) value)
-last_more k id value (x ∷ xs) = ap (λ o. first_of_two o (when (int_eq x.0 k) x.1)) (last_more k id value xs) ∙ or_assoc (when (int_eq id k) value) (last_under k xs) (when (int_eq x.0 k) x.1)
+use Rattle.dk_grammar.proofs.LastUnder.{last_more}
+use Rattle.dk_grammar.specs.Structs.{Listed, under, when, first_of_two, last_under}
+use Rattle.dk_grammar.specs.PageHeaders.{Part, number, inner, own_number, own_inner, numbers_in, inners_in}
+use Rattle.dk_pages.specs.Headers.{numbers_of, fields_of, with_number, with_part}
 
 pub numbers_grow : (id : ℤ) (value : Option ℤ) (done : Listed ℤ) → numbers_of (done ++ under id value []) ≡ with_number id value (numbers_of done)
 numbers_grow id None done = ap numbers_of (append-nil done)

@@ -2,6 +2,4 @@ pub mod Growing
 pub mod Meanings
 pub mod PageExamples
 pub mod PageSpellings
-pub mod StructSpellings
 pub mod Taking
-pub mod Walking

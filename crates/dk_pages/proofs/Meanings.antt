@@ -2,8 +2,8 @@
 use Rattle.std.proofs.Common.{◌≡◌, ℕ, true, ℤ, Some, Ok, List, refl, ap, ◌∙◌}
 use Rattle.dk_grammar.specs.Thrift.{whole_at}
 use Rattle.dk_thrift.specs.Reading.{Reading}
-use Rattle.dk_pages.specs.Structs.{Listed, is_whole, number_meaning, struct_at}
-use Rattle.dk_pages.specs.Headers.{inner, is_inner, part_meaning}
+use Rattle.dk_grammar.specs.Structs.{Listed, is_whole, number_meaning, struct_at}
+use Rattle.dk_grammar.specs.PageHeaders.{inner, is_inner, part_meaning}
 
 pub whole_counts : (id : ℤ) (kind : ℕ) (bytes rest : List ℕ) (z : ℤ) → is_whole kind ≡ true → whole_at bytes ≡ Ok (z, rest) → number_meaning id kind bytes ≡ Ok (Some z, rest)
 whole_counts id kind bytes rest z t e = rw (t, e) refl

@@ -4,12 +4,13 @@ use Rattle.std.proofs.Math.Seq.{take-append_seam, drop-append_seam}
 use Rattle.std.proofs.lemmas.List.{take-append-drop, length-append, length-take-le}
 use Rattle.std.proofs.lemmas.Bool.{leb-true, le-leb}
 use Rattle.dk_grammar.specs.Thrift.{Front}
-use Rattle.dk_pages.specs.Structs.{Listed, struct_at}
-use Rattle.dk_pages.specs.Headers.{Part, part_meaning, fields_of, header_of, header_in, header_at}
+use Rattle.dk_grammar.specs.Structs.{Listed, struct_at}
+use Rattle.dk_grammar.specs.PageHeaders.{Part, part_meaning, SpellsHeader, SpellsPart}
+use Rattle.dk_pages.specs.Headers.{fields_of, header_of, header_in, header_at}
 use Rattle.dk_pages.specs.Pages.{Page, page_with, page_from, page_within, page_at}
-use Rattle.dk_pages.specs.Spelled.{IsPageAt, SpellsHeader, SpellsPart}
+use Rattle.dk_pages.specs.Spelled.{IsPageAt}
 use Rattle.dk_pages.specs.declared.header.Header.{Header}
-use Rattle.dk_pages.proofs.StructSpellings.{fields_long, headers}
+use Rattle.dk_grammar.proofs.StructSpellings.{fields_long, headers}
 
 pub none_is_not_some : {A : Type 0} (x : A) → None ≡ Some x → ⊥
 none_is_not_some x h = cc

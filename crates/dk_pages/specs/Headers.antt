@@ -2,47 +2,12 @@
 use Rattle.std.specs.Prelude.{ℕ, ◌==◌, ◌^◌, ◌&&◌, ◌||◌, nat_lt, int_le, Bool, if◌then◌else◌, ℤ, pos, negsuc, Option, Some, None, option_map, option_and_then, unwrap_or, Ok, Err, List, [], ◌∷◌, ◌++◌}
 use Rattle.std.specs.Ordering.{int_eq}
 use Rattle.dk_grammar.specs.Thrift.{Front, ◌>>=◌}
-use Rattle.dk_pages.specs.Structs.{Listed, Meaning, struct_at, number_meaning, last_under, when, first_of_two}
+use Rattle.dk_grammar.specs.PageHeaders.{Part, number, inner, part_meaning, numbers_in, inners_in, inner_under}
+use Rattle.dk_grammar.specs.Structs.{Listed, Meaning, struct_at, number_meaning, last_under, when, first_of_two}
 use Rattle.dk_pages.specs.declared.numbers.Numbers.{Numbers}
 use Rattle.dk_pages.specs.declared.fields.Fields.{Fields}
 use Rattle.dk_pages.specs.declared.header.Header.{Header}
 use Rattle.dk_pages.specs.declared.header.PageKind.TheVariants.{DataV1, DataV2, Dictionary}
-
--- What counts in a page header: a number, or the numbers of an inner header.
-pub data Part : Type 0 where
-  number : ℤ → Part
-  inner : Listed ℤ → Part
-
--- the inner headers: of a data page, of a dictionary page and of a data page of the second version
-abbrev pub is_inner : ℤ → Bool
-is_inner id = int_eq id (pos 5) || int_eq id (pos 7) || int_eq id (pos 8)
-
--- an inner header is a struct, kind 12
-abbrev pub part_meaning : Meaning Part
-part_meaning id kind bytes =
-    if is_inner id && kind == 12 then (struct_at number_meaning bytes >>= λ x. Ok (Some (inner x.0), x.1))
-    else (number_meaning id kind bytes >>= λ x. Ok (option_map number x.0, x.1))
-
-abbrev pub own_number : ℤ → Part → Listed ℤ
-own_number id (number z) = (id, z) ∷ []
-own_number id (inner numbers) = []
-
-abbrev pub own_inner : ℤ → Part → Listed (Listed ℤ)
-own_inner id (number z) = []
-own_inner id (inner numbers) = (id, numbers) ∷ []
-
--- a header's own numbers, and its inner headers
-abbrev pub numbers_in : Listed Part → Listed ℤ
-numbers_in [] = []
-numbers_in (x ∷ xs) = own_number x.0 x.1 ++ numbers_in xs
-
-abbrev pub inners_in : Listed Part → Listed (Listed ℤ)
-inners_in [] = []
-inners_in (x ∷ xs) = own_inner x.0 x.1 ++ inners_in xs
-
--- one that isn't there has no numbers
-abbrev pub inner_under : ℤ → Listed Part → Listed ℤ
-inner_under id parts = unwrap_or (last_under id (inners_in parts)) []
 
 -- numbers by the ids of their fields
 abbrev pub numbers_of : Listed ℤ → Numbers

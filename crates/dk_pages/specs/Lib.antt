@@ -4,4 +4,3 @@ pub mod Headers
 pub mod Pages
 pub mod Spelled
 pub mod Split
-pub mod Structs

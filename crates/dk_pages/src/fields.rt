@@ -2,8 +2,9 @@
 
 ghost use Rattle.std.specs.Prelude.{◌≡◌, ◌&&◌, length};
 ghost use Rattle.dk_pages.specs.Found.{Finds, FindsOne};
-ghost use Rattle.dk_pages.specs.Headers.{fields_of, is_inner, part_meaning, with_part};
-ghost use Rattle.dk_pages.specs.Structs.{fields_from};
+ghost use Rattle.dk_grammar.specs.PageHeaders.{is_inner, part_meaning};
+ghost use Rattle.dk_pages.specs.Headers.{fields_of, with_part};
+ghost use Rattle.dk_grammar.specs.Structs.{fields_from};
 
 use crate::numbers::{Numbers, read_number, read_numbers};
 use dk_thrift::{Field, Reader, ThriftFault};

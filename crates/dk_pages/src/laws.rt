@@ -2,10 +2,10 @@
 
 ghost use Rattle.std.specs.Prelude.{◌≡◌, ℕ, List, Some};
 ghost use Rattle.dk_grammar.specs.Grammar.{ReadsBy};
-ghost use Rattle.dk_pages.specs.Headers.{part_meaning};
+ghost use Rattle.dk_grammar.specs.PageHeaders.{part_meaning, SpellsHeader};
 ghost use Rattle.dk_pages.specs.Pages.{Page, page_at};
-ghost use Rattle.dk_pages.specs.Spelled.{IsPageAt, SpellsHeader};
-ghost use Rattle.dk_pages.specs.Structs.{struct_at};
+ghost use Rattle.dk_pages.specs.Spelled.{IsPageAt};
+ghost use Rattle.dk_grammar.specs.Structs.{struct_at};
 
 /// The fields that are read of a page header are spelled by the bytes taken, and what is spelled is read, whatever follows. A page
 /// is found exactly where a header is spelled and a body of its size lies right behind it, and it is this one.

@@ -3,7 +3,7 @@
 ghost use Rattle.std.specs.Prelude.{◌≡◌, length};
 ghost use Rattle.dk_pages.specs.Found.{Finds, FindsOne};
 ghost use Rattle.dk_pages.specs.Headers.{numbers_of, with_number};
-ghost use Rattle.dk_pages.specs.Structs.{fields_from, is_whole, number_meaning};
+ghost use Rattle.dk_grammar.specs.Structs.{fields_from, is_whole, number_meaning};
 
 use dk_thrift::{Field, Reader, ThriftFault};
 

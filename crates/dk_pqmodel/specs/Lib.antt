@@ -1,7 +1,11 @@
 pub mod ColumnView
 pub mod Datum
+pub mod FileMeans
+pub mod FilePages
 pub mod FileSchema
 pub mod Fits
+pub mod Footer
+pub mod FooterBytes
 pub mod Laid
 pub mod Laws
 pub mod NodeView

@@ -1,5 +1,6 @@
+pub mod AgainLaws
 pub mod GroupLemmas
 pub mod Passes
 pub mod Places
+pub mod Walking
 pub mod Written
-pub mod AgainLaws

@@ -1,4 +1,5 @@
 pub mod Gives
 pub mod Groups
 pub mod Reading
+pub mod Walks
 pub mod Writing

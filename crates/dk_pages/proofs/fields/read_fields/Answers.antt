@@ -3,9 +3,10 @@ use Rattle.std.proofs.lemmas.Result.{err_from_is_err_and}
 use Rattle.std.proofs.lemmas.Int.{to_z-of_z}
 use Rattle.dk_grammar.specs.Thrift.{field_at}
 use Rattle.dk_thrift.proofs.Passes.{field_id}
-use Rattle.dk_pages.specs.Headers.{fields_of, part_meaning, with_part}
+use Rattle.dk_grammar.specs.PageHeaders.{part_meaning}
+use Rattle.dk_pages.specs.Headers.{fields_of, with_part}
 use Rattle.dk_pages.proofs.Growing.{parts_grow}
-use Rattle.dk_pages.proofs.Walking.{header_flaw, value_flaw, walk_ends, walk_goes_on}
+use Rattle.dk_thrift.proofs.Walking.{header_flaw, value_flaw, walk_ends, walk_goes_on}
 use Rattle.dk_pages.proofs.fields.read_fields.Goals as goal
 
 pub returns-in_err-field : goal.returns-in_err-field

@@ -1,7 +1,8 @@
 use Rattle.std.proofs.Common.{◌-◌, length}
-use Rattle.dk_pages.specs.Found.{Walks}
-use Rattle.dk_pages.specs.Structs.{fields_from}
-use Rattle.dk_pages.specs.Headers.{fields_of, part_meaning}
+use Rattle.dk_thrift.specs.Walks.{Walks}
+use Rattle.dk_grammar.specs.Structs.{fields_from}
+use Rattle.dk_grammar.specs.PageHeaders.{part_meaning}
+use Rattle.dk_pages.specs.Headers.{fields_of}
 use Rattle.dk_pages.proofs.fields.read_fields.Given as goal
 
 abbrev pub invariant-loop : goal.invariant-loop

@@ -1,6 +1,7 @@
 use Rattle.std.proofs.Common.{rules, FitsSigned, Some, ap, sym, ◌∙◌, w16}
 use Rattle.std.proofs.lemmas.Int.{to_z-of_z}
-use Rattle.dk_pages.specs.Headers.{inner, with_inner}
+use Rattle.dk_grammar.specs.PageHeaders.{inner}
+use Rattle.dk_pages.specs.Headers.{with_inner}
 use Rattle.dk_pages.proofs.Meanings.{goes_on, inner_counts}
 use Rattle.dk_pages.proofs.fields.read_part.Goals as goal
 

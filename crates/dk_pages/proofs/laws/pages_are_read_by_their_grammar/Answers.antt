@@ -1,4 +1,4 @@
-use Rattle.dk_pages.proofs.StructSpellings.{headers}
+use Rattle.dk_grammar.proofs.StructSpellings.{headers}
 use Rattle.dk_pages.proofs.PageSpellings.{page_found, page_only}
 use Rattle.dk_pages.proofs.laws.pages_are_read_by_their_grammar.Goals as goal
 

@@ -3,10 +3,10 @@ use Rattle.std.proofs.lemmas.Result.{err_from_is_err_and}
 use Rattle.std.proofs.lemmas.Int.{to_z-of_z}
 use Rattle.dk_grammar.specs.Thrift.{field_at}
 use Rattle.dk_thrift.proofs.Passes.{field_id}
-use Rattle.dk_pages.specs.Structs.{number_meaning}
+use Rattle.dk_grammar.specs.Structs.{number_meaning}
 use Rattle.dk_pages.specs.Headers.{numbers_of, with_number}
 use Rattle.dk_pages.proofs.Growing.{numbers_grow}
-use Rattle.dk_pages.proofs.Walking.{header_flaw, value_flaw, walk_ends, walk_goes_on}
+use Rattle.dk_thrift.proofs.Walking.{header_flaw, value_flaw, walk_ends, walk_goes_on}
 use Rattle.dk_pages.proofs.numbers.read_numbers.Goals as goal
 
 pub returns-in_err-field : goal.returns-in_err-field

@@ -1,6 +1,6 @@
 use Rattle.std.proofs.Common.{◌-◌, length}
-use Rattle.dk_pages.specs.Found.{Walks}
-use Rattle.dk_pages.specs.Structs.{fields_from, number_meaning}
+use Rattle.dk_thrift.specs.Walks.{Walks}
+use Rattle.dk_grammar.specs.Structs.{fields_from, number_meaning}
 use Rattle.dk_pages.specs.Headers.{numbers_of}
 use Rattle.dk_pages.proofs.numbers.read_numbers.Given as goal
 

@@ -6,18 +6,18 @@ use Rattle.dk_grammar.specs.declared.thrift.Field.{Field}
 use Rattle.dk_grammar.specs.declared.thrift.Field.TheVariants.{End, Next}
 use Rattle.dk_grammar.specs.declared.thrift.Flaw.{Flaw}
 use Rattle.dk_thrift.specs.Reading.{Reading, last_behind}
-use Rattle.dk_pages.specs.Structs.{Listed, Meaning, under, field_then, fields_from}
-use Rattle.dk_pages.specs.Found.{after, Walks}
+use Rattle.dk_grammar.specs.Structs.{Listed, Meaning, under, field_then, fields_from}
+use Rattle.dk_thrift.specs.Walks.{after, Walks}
 
 left_over : (n i : ℕ) → i < n → n - i ≡ suc (n - (i + 1))
 left_over n i h = omega arith
 
 -- a flaw stays one, whatever would follow
-flaw_stays : {A B : Type 0} (r : Result A Flaw) (f : A → Result B Flaw) → IsErr r → IsErr (r >>= f)
+pub flaw_stays : {A B : Type 0} (r : Result A Flaw) (f : A → Result B Flaw) → IsErr r → IsErr (r >>= f)
 flaw_stays (Ok x) f h = cc
 flaw_stays (Err flaw) f h = refl
 
-nothing_done : {V : Type 0} (front : Front (Listed V)) → after [] front ≡ front
+pub nothing_done : {A : Type 0} (front : Front (List A)) → after [] front ≡ front
 nothing_done (Ok x) = refl
 nothing_done (Err flaw) = refl
 

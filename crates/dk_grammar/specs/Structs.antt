@@ -1,7 +1,9 @@
--- What the fields of a struct say, as a list in the order in which they stand.
-use Rattle.std.specs.Prelude.{ℕ, zero, suc, ◌&&◌, nat_le, Bool, if◌then◌else◌, ℤ, pos, Option, Some, None, Ok, Err, List, [], ◌∷◌, length}
+-- What the fields of a struct say, as a list in the order in which they stand, and which bytes are its spelling.
+use Rattle.std.specs.Prelude.{◌≡◌, ℕ, zero, suc, ◌&&◌, nat_le, Bool, if◌then◌else◌, IsTrue, IsFalse, ℤ, pos, Option, Some, None, Ok, Err, List, [], ◌∷◌, length}
 use Rattle.std.specs.Ordering.{int_eq}
 use Rattle.dk_grammar.specs.Thrift.{Front, ◌>>=◌, field_at, whole_at}
+use Rattle.dk_grammar.specs.Grammar.{SpellsField, SpellsWhole}
+use Rattle.dk_grammar.specs.Nested.{Behind, SpellsValue}
 use Rattle.dk_grammar.specs.Passed.{passed_at}
 use Rattle.dk_grammar.specs.declared.thrift.Field.{Field}
 use Rattle.dk_grammar.specs.declared.thrift.Field.TheVariants.{End, Next}
@@ -53,3 +55,18 @@ when b value = if b then Some value else None
 abbrev pub last_under : {V : Type 0} → ℤ → Listed V → Option V
 last_under id [] = None
 last_under id (x ∷ xs) = first_of_two (last_under id xs) (when (int_eq x.0 id) x.1)
+
+-- So many fields behind the field `last`, and the end. `spells` says which bytes are a field's value, and what counts of it.
+abbrev pub SpellsFields : {V : Type 0} → (ℤ → ℕ → List ℕ → Option V → Type 0) → ℕ → ℤ → List ℕ → Listed V → Type 0
+SpellsFields spells zero last bytes values = SpellsField last bytes End × (values ≡ [])
+SpellsFields {V} spells (suc n) last bytes values =
+    (id : ℤ) × ((kind : ℕ) × ((value : Option V) × ((more : Listed V) × ((values ≡ under id value more)
+    × Behind (λ header. SpellsField last header (Next id kind)) (Behind (λ part. spells id kind part value) (λ part. SpellsFields spells n id part more)) bytes))))
+
+abbrev pub SpellsStruct : {V : Type 0} → (ℤ → ℕ → List ℕ → Option V → Type 0) → List ℕ → Listed V → Type 0
+SpellsStruct spells bytes values = (n : ℕ) × SpellsFields spells n (pos 0) bytes values
+
+-- a whole number counts, and no value of another kind
+abbrev pub SpellsNumberField : ℤ → ℕ → List ℕ → Option ℤ → Type 0
+SpellsNumberField id kind bytes (Some z) = IsTrue (is_whole kind) × SpellsWhole bytes z
+SpellsNumberField id kind bytes None = IsFalse (is_whole kind) × SpellsValue kind bytes

@@ -9,9 +9,8 @@ use Rattle.dk_grammar.specs.declared.thrift.Field.TheVariants.{End, Next}
 use Rattle.dk_grammar.proofs.Fronts.{choice, bound, ok_is}
 use Rattle.dk_grammar.proofs.Spellings.{fields, wholes, short_is_not_ok}
 use Rattle.dk_grammar.proofs.NestedSpellings.{values}
-use Rattle.dk_pages.specs.Structs.{Listed, Meaning, under, field_then, fields_from, struct_at, is_whole, number_meaning}
-use Rattle.dk_pages.specs.Headers.{Part, number, inner, is_inner, part_meaning}
-use Rattle.dk_pages.specs.Spelled.{SpellsFields, SpellsStruct, SpellsNumberField, SpellsPart, SpellsHeader}
+use Rattle.dk_grammar.specs.Structs.{Listed, Meaning, under, field_then, fields_from, struct_at, is_whole, number_meaning, SpellsFields, SpellsStruct, SpellsNumberField}
+use Rattle.dk_grammar.specs.PageHeaders.{Part, number, inner, is_inner, part_meaning, SpellsPart, SpellsHeader}
 
 joined : (bytes front middle more rest : List ℕ) → bytes ≡ front ++ middle → middle ≡ more ++ rest → bytes ≡ (front ++ more) ++ rest
 joined bytes front middle more rest e f = e ∙ ap (λ x. front ++ x) f ∙ sym (append_assoc front more rest)
@@ -94,7 +93,7 @@ module _ {V : Type 0} (spells : ℤ → ℕ → List ℕ → Option V → Type 0
       let whole : length (front ++ rest) ≡ length front + length rest = length-append front rest in
       fields_given s.0 (length (front ++ rest)) (pos 0) front rest found (omega arith) s.1
 
-  structs : ReadsBy (SpellsStruct spells) (struct_at meaning)
+  pub structs : ReadsBy (SpellsStruct spells) (struct_at meaning)
   structs = record {
     spelled = λ bytes rest found h. let t = fields_spelled (length bytes) (pos 0) bytes rest found h in (t.1.0, t.1.1, (t.0, t.1.2));
     given = struct_given;
@@ -117,7 +116,7 @@ number_given : (id : ℤ) (kind : ℕ) (front rest : List ℕ) (value : Option �
 number_given id kind front rest (Some z) s = rw (s.0, wholes.given front rest z s.1) refl
 number_given id kind front rest None s = rw (s.0, (values kind).taken front rest s.1) refl
 
-number_fields : (id : ℤ) (kind : ℕ) → ReadsBy (SpellsNumberField id kind) (number_meaning id kind)
+pub number_fields : (id : ℤ) (kind : ℕ) → ReadsBy (SpellsNumberField id kind) (number_meaning id kind)
 number_fields id kind = record { spelled = number_spelled id kind; given = number_given id kind }
 
 as_part : (id : ℤ) (kind : ℕ) (front : List ℕ) (value : Option ℤ) → (is_inner id && kind == 12) ≡ false → SpellsNumberField id kind front value → SpellsPart id kind front (option_map number value)

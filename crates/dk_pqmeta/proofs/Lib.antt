@@ -1,0 +1,9 @@
+pub mod Behind
+pub mod Eaches
+pub mod Footers
+pub mod Framing
+pub mod Growing
+pub mod Helds
+pub mod Refused
+pub mod Texts
+pub mod Trees
