@@ -28,6 +28,7 @@ add one | "$program" "$table" commit >"$work/out" || fail "the second commit: st
 head -n 1 "$(commit_of "$table" 1)" | grep -q '^{"commitInfo":{"engineInfo":"deltak","timestamp":[0-9]*,"txnId":"[0-9a-f-]*"}}$' ||
     fail "the second commit begins with $(head -n 1 "$(commit_of "$table" 1)")"
 "$program" "$table" show | grep -q '"path":"one"' || fail "show doesn't have the second commit's file"
+"$program" "$table" show --at 0 | grep -q '"path":"one"' && fail "version 0 has the second commit's file"
 printf '[1]' | "$program" "$table" commit >"$work/out" 2>"$work/err"
 [ $? -eq 7 ] && [ "$(cat "$work/err")" = 'deltak: {"damaged":{"path":"-","place":1}}' ] || fail "a damaged input: $(cat "$work/err")"
 printf '%s\n' "$(add two)" "$(add two)" | "$program" "$table" commit >"$work/out" 2>"$work/err"
@@ -90,16 +91,16 @@ begin "$table"
 killed=0
 for i in $(seq 100); do
     before=$(ls "$table/_delta_log" | grep -c '^[0-9]*\.json$')
-    add "killed-$i" >"$work/input"
+    seq 2000 | sed "s|.*|{\"add\":{\"path\":\"killed-$i-&\",\"size\":1,\"modificationTime\":5}}|" >"$work/input"
     "$program" "$table" commit <"$work/input" >/dev/null 2>&1 &
     child=$!
-    sleep "0.00$((i % 10))"
+    sleep "0.0$(printf '%02d' $((i % 25)))"
     kill -9 "$child" 2>/dev/null && killed=$((killed + 1))
     wait "$child" 2>/dev/null
     after=$(ls "$table/_delta_log" | grep -c '^[0-9]*\.json$')
     "$program" "$table" show >"$work/out" 2>"$work/err" || fail "show after kill $i: $(cat "$work/err")"
-    has=$(grep -c "\"path\":\"killed-$i\"" "$work/out")
-    [ "$after" -eq $((before + has)) ] || fail "kill $i left $after commits after $before, and $has of its files"
+    has=$(grep -c "\"path\":\"killed-$i-" "$work/out")
+    [ "$has" -eq $((2000 * (after - before))) ] || fail "kill $i left $after commits after $before, and $has of its files"
 done
 
 echo "twenty at once: $acknowledged acknowledged; beside another writer: $(wc -l <"$work/own-made") own, $(wc -l <"$work/foreign-made") foreign; $killed of 100 killed; $failed failed"

@@ -45,6 +45,16 @@ expect 'a gap between commits' 4 'deltak: {"missing":{"path":"_delta_log/0000000
 expect 'a line that is cut short' 7 "deltak: {\"damaged\":{\"path\":\"$first\",\"place\":4}}" "$work/bad" show
 expect 'no metadata' 7 "deltak: {\"damaged\":{\"path\":\"$first\",\"place\":0}}" "$work/nothing" show
 expect 'a short name is no commit' 4 "deltak: {\"missing\":{\"path\":\"$first\"}}" "$work/other" show
+expect 'a version above the latest' 13 'deltak: {"noVersion":{"latest":2}}' "$work/gap" show --at 3
+expect 'a version with a leading zero' 2 'deltak: {"usage":{}}' "$work/gap" show --at 00
+expect 'a version that is missing' 2 'deltak: {"usage":{}}' "$work/gap" show --at
+mkdir -p "$work/three/_delta_log" "$work/vector/_delta_log" "$work/months/_delta_log"
+printf '%s\n%s\n' '{"protocol":{"minReaderVersion":3,"minWriterVersion":7,"readerFeatures":[],"writerFeatures":[]}}' "$metadata" >"$work/three/$first"
+printf '%s\n%s\n%s\n' "$protocol" "$metadata" '{"add":{"path":"a","size":1,"modificationTime":5,"deletionVector":{}}}' >"$work/vector/$first"
+printf '%s\n%s\n' "$protocol" '{"metaData":{"id":"t","schemaString":"{}","configuration":{"delta.deletedFileRetentionDuration":"interval 2 months"}}}' >"$work/months/$first"
+expect 'reader version 3' 5 'deltak: {"unsupported":{"name":"minReaderVersion 3"}}' "$work/three" show
+expect 'a deletion vector' 5 'deltak: {"unsupported":{"name":"deletionVectors"}}' "$work/vector" show
+expect 'a retention of months' 5 'deltak: {"unsupported":{"name":"delta.deletedFileRetentionDuration"}}' "$work/months" show
 mkdir "$work/gap/_delta_log/00000000000000000001.json"
 expect 'a folder is no commit' 4 'deltak: {"missing":{"path":"_delta_log/00000000000000000001.json"}}' "$work/gap" show
 
