@@ -1,5 +1,5 @@
 -- What the command `commit` owes, by its input and the events of the store.
-use Rattle.std.specs.Prelude.{ℕ, ◌≡◌, ◌⊎◌, ◌++◌, List, [], ◌∷◌, Option, Some, Result, Ok, Err, take, codes}
+use Rattle.std.specs.Prelude.{ℕ, ℤ, ◌≡◌, ◌⊎◌, ◌++◌, List, [], ◌∷◌, Option, Some, Result, Ok, Err, take, codes}
 use Rattle.serde_json.specs.Data.{Data, number, unsigned}
 use Rattle.serde_json.specs.Written.{compact_text}
 use Rattle.dk_store.specs.Told.{Told}
@@ -9,7 +9,10 @@ use Rattle.dk_model.specs.declared.action.Action.{Action}
 use Rattle.dk_engine.specs.declared.refusal.Refusal.{Refusal}
 use Rattle.dk_engine.specs.declared.refusal.Refusal.TheVariants as refusals
 use Rattle.dk_engine.specs.Answers.{Refuses}
-use Rattle.dk_txn.specs.Attempt.{Writing}
+use Rattle.dk_lawful.specs.History.{next_version}
+use Rattle.dk_lawful.specs.Lawful.{Lawful}
+use Rattle.dk_lawful.specs.Kept.{IsSameHistory, HasOneMore}
+use Rattle.dk_txn.specs.Attempt.{Writing, own_commit}
 use Rattle.dk_txn.specs.Commits.{Writes, CommitRefuses}
 use Rattle.dk_cli.specs.declared.status.Status.{Status}
 use Rattle.dk_cli.specs.declared.status.Status.TheVariants as statuses
@@ -63,3 +66,23 @@ GivesLine version old statuses.SinkFault new = (count : ℕ) × (new ≡ more ol
 GivesLine version old (statuses.Refused refusal) new = (refusal ≡ refusals.OutOfMemory) × (new ≡ old)
 GivesLine version old statuses.SourceFault new = ⊥
 GivesLine version old statuses.Usage new = ⊥
+
+-- ---- the history
+
+-- With Done the history has this commit more, at the version of the line that the sink took; with SinkFault it has it, too. After a failure of the
+-- store or want of memory it may have it, and after any other end it is as it was.
+abbrev pub EndsHistory : List Action → Status → List Told → List Told → Option (List ℕ) → Option (List ℕ) → Type 0
+EndsHistory commit statuses.Done events later old new = HasOneMore commit events later × (new ≡ more old (committed_line (next_version events)))
+EndsHistory commit statuses.SinkFault events later old new = HasOneMore commit events later
+EndsHistory commit (statuses.Refused refusals.Store) events later old new = IsSameHistory events later ⊎ HasOneMore commit events later
+EndsHistory commit (statuses.Refused refusals.OutOfMemory) events later old new = IsSameHistory events later ⊎ HasOneMore commit events later
+EndsHistory commit _ events later old new = IsSameHistory events later
+
+-- what the command did to the history of a lawful log, over actions that are committed with this id
+abbrev pub SaysEnd : List Action → Status → Option (List ℕ) → Option (List ℕ) → List Told → List Told → Type 0
+SaysEnd commit status old new events later = (horizon : ℤ) → Lawful events horizon → EndsHistory commit status events later old new
+
+-- by what the input means: its actions behind the line of this id, or nothing
+abbrev pub InputSays : Result (List Action) Refusal → ℕ → Status → Option (List ℕ) → Option (List ℕ) → List Told → List Told → Type 0
+InputSays (Ok actions) base status old new events later = SaysEnd (own_commit base actions) status old new events later
+InputSays (Err cause) base status old new events later = later ≡ events

@@ -4,11 +4,11 @@ ghost use Rattle.dk_store.specs.Causes.{Rose};
 ghost use Rattle.dk_model.specs.declared.action.Action.{Action};
 ghost use Rattle.dk_engine.specs.Held.{held};
 ghost use Rattle.dk_engine.specs.Usual.{AreWithin};
-ghost use Rattle.dk_lawful.specs.Kept.{KeepsLawful};
-ghost use Rattle.dk_txn.specs.Attempt.{attempt};
-ghost use Rattle.dk_txn.specs.Commits.{Commits};
+ghost use Rattle.dk_lawful.specs.Kept.{IfBoth, KeepsLawful};
+ghost use Rattle.dk_txn.specs.Attempt.{attempt, own_commit};
+ghost use Rattle.dk_txn.specs.Commits.{Commits, SaysHistory};
 ghost use Rattle.dk_cli.specs.Actions.{actions_of, IsEnding, TakesActions};
-ghost use Rattle.dk_cli.specs.Commit.{CommitAnswers, CommitEnds, GivesLine};
+ghost use Rattle.dk_cli.specs.Commit.{CommitAnswers, CommitEnds, GivesLine, InputSays, SaysEnd};
 ghost use Rattle.dk_cli.specs.Run.{IsUnwritten};
 
 use crate::actions::take_actions;
@@ -36,6 +36,7 @@ fn commit(
     ensures store { result ≡ Err Refusal.Store → Rose (store_faults (held engine.old.store)) (store_faults (held engine.new.store)) }
     ensures taken { (path : List ℕ) → result ≡ Err (Refusal.Taken path) → Rose (clashes (held engine.old.store)) (clashes (held engine.new.store)) }
     ensures lawful { KeepsLawful (told (held engine.old.store)) (told (held engine.new.store)) }
+    ensures history { IfBoth (told (held engine.old.store)) (told (held engine.new.store)) (SaysHistory (own_commit base actions.now) result) }
 {
     commit_now(
         alloc,
@@ -75,6 +76,7 @@ fn commit_actions<O: Sink>(
     ensures answer { IfSome (told (held engine.old.store)) (λ events. CommitEnds (attempt events actions.now now base) events (O.taken out.old) result (O.taken out.new) (told (held engine.new.store))) }
     ensures alike { is_some (told (held engine.new.store)) ≡ is_some (told (held engine.old.store)) }
     ensures lawful { KeepsLawful (told (held engine.old.store)) (told (held engine.new.store)) }
+    ensures history { IfBoth (told (held engine.old.store)) (told (held engine.new.store)) (SaysEnd (own_commit base actions.now) result (O.taken out.old) (O.taken out.new)) }
     ensures limits { engine.new.limits ≡ engine.old.limits }
     ensures store_later { store_faults (held engine.old.store) ≤ store_faults (held engine.new.store) }
     ensures clashes_later { clashes (held engine.old.store) ≤ clashes (held engine.new.store) }
@@ -127,6 +129,8 @@ pub(crate) fn commit_command<I: Source, O: Sink>(
     ensures read { result ≡ Status.Done → IfSome (I.left input.new) (λ left. left ≡ []) }
     ensures alike { is_some (told (held engine.new.store)) ≡ is_some (told (held engine.old.store)) }
     ensures lawful { KeepsLawful (told (held engine.old.store)) (told (held engine.new.store)) }
+    ensures history { IfSome (I.left input.old) (λ left. IfBoth (told (held engine.old.store)) (told (held engine.new.store))
+        (InputSays (actions_of engine.old.limits left) base result (O.taken out.old) (O.taken out.new))) }
     ensures limits { engine.new.limits ≡ engine.old.limits }
     ensures store_later { store_faults (held engine.old.store) ≤ store_faults (held engine.new.store) }
     ensures clashes_later { clashes (held engine.old.store) ≤ clashes (held engine.new.store) }

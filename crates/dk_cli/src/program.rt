@@ -3,10 +3,10 @@ ghost use Rattle.std.specs.Prelude.{◌≡◌, [], ◌≤◌, ◌↔◌, List, �
 ghost use Rattle.dk_store.specs.Causes.{Rose};
 ghost use Rattle.dk_engine.specs.Held.{held};
 ghost use Rattle.dk_engine.specs.Usual.{AreWithin};
-ghost use Rattle.dk_lawful.specs.Kept.{KeepsLawful};
+ghost use Rattle.dk_lawful.specs.Kept.{IfBoth, KeepsLawful};
 ghost use Rattle.dk_txn.specs.Attempt.{attempt};
 ghost use Rattle.dk_cli.specs.Actions.{actions_of};
-ghost use Rattle.dk_cli.specs.Commit.{CommitAnswers};
+ghost use Rattle.dk_cli.specs.Commit.{CommitAnswers, InputSays};
 ghost use Rattle.dk_cli.specs.Show.{show};
 ghost use Rattle.dk_cli.specs.Run.{AsksShow, IsCommit, IsNoCommand, Answers, IsUnwritten};
 ghost use Rattle.dk_cli.specs.History.{ShowsLog};
@@ -60,6 +60,8 @@ fn show_command<O: Sink>(
 /// that is read, the sink took exactly the text of that version as the fold of the commits up to it gives it. `show` says the
 /// same of every log, and with it exactly when each refusal comes. `commit` says which one event a commit adds, and exactly
 /// when each refusal comes. `lawful` is the promise on the log: whatever the command and its end, what was lawful stays so.
+/// `history` is the promise on `commit` in the subject's own words: with Done the history of a lawful log has exactly this
+/// commit more, at the version that was answered.
 pub fn run<I: Source, O: Sink>(
     alloc: Global,
     words: &[String],
@@ -82,6 +84,8 @@ pub fn run<I: Source, O: Sink>(
     ensures commit { IsCommit words.now → IfSome (told (held engine.old.store)) (λ events. IfSome (I.left input.old) (λ left.
         CommitAnswers (actions_of engine.old.limits left) (λ actions. attempt events actions now base) events (O.taken out.old) result (O.taken out.new) (told (held engine.new.store)))) }
     ensures lawful { KeepsLawful (told (held engine.old.store)) (told (held engine.new.store)) }
+    ensures history { IsCommit words.now → IfSome (I.left input.old) (λ left. IfBoth (told (held engine.old.store)) (told (held engine.new.store))
+        (InputSays (actions_of engine.old.limits left) base result (O.taken out.old) (O.taken out.new))) }
 
     // What never comes of `show`.
     ensures no_source { (IsCommit words.now → ⊥) → result ≡ Status.SourceFault → ⊥ }
