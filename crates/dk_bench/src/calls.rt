@@ -1,6 +1,9 @@
 //! The words, and the calls that they name.
 
 use dk_hybrid::{HybridFault, decode};
+use dk_pages::next_page;
+use dk_pqmeta::read_footer;
+use dk_pqmodel::PqFault;
 use std::alloc::{AllocGlobal, Global};
 use std::rt::Env;
 use std::{env, fs, io};
@@ -14,6 +17,8 @@ enum Trouble {
     Io(io::Error),
     /// The bytes aren't runs of so many values.
     Runs(HybridFault),
+    /// The bytes have no footer of a Parquet file, or no pages.
+    Parquet(PqFault),
 }
 
 impl From<io::Error> for Trouble {
@@ -25,6 +30,12 @@ impl From<io::Error> for Trouble {
 impl From<HybridFault> for Trouble {
     fn from(fault: HybridFault) -> Self {
         Trouble::Runs(fault)
+    }
+}
+
+impl From<PqFault> for Trouble {
+    fn from(fault: PqFault) -> Self {
+        Trouble::Parquet(fault)
     }
 }
 
@@ -68,11 +79,46 @@ fn decode_runs(alloc: Global, bytes: &[u8], wanted: &Wanted) -> Result<u64, Trou
     Ok(total)
 }
 
+/// Reads the file's footer so many times, and counts the row groups.
+fn read_footers(alloc: Global, bytes: &[u8], wanted: &Wanted) -> Result<u64, Trouble> {
+    let mut total = 0u64;
+    for _ in 0..wanted.times {
+        let footer = read_footer(alloc, bytes)?;
+        total = total.wrapping_add(footer.groups.len() as u64);
+    }
+    Ok(total)
+}
+
+/// Walks so many pages that stand one behind another from the front on, as those of a column with definition levels alone,
+/// and counts the bytes of their values.
+fn walk_pages(bytes: &[u8], count: usize) -> Result<u64, Trouble> {
+    let mut total = 0u64;
+    let mut at = 0;
+    for _ in 0..count {
+        let page = next_page(bytes, at)?;
+        let parts = page.split(0, 1)?;
+        total = total.wrapping_add(parts.values.len() as u64);
+        at = page.next;
+    }
+    Ok(total)
+}
+
+/// Walks the pages so many times.
+fn read_pages(bytes: &[u8], wanted: &Wanted) -> Result<u64, Trouble> {
+    let mut total = 0u64;
+    for _ in 0..wanted.times {
+        total = total.wrapping_add(walk_pages(bytes, wanted.count)?);
+    }
+    Ok(total)
+}
+
 fn try_call(rt: &HostRuntime) -> Result<(), Trouble> {
     let wanted = read_words(rt)?;
     let bytes = fs::read(rt, wanted.file.as_str())?;
     let total = match wanted.call.as_str() {
         "runs" => decode_runs(rt.alloc(), &bytes, &wanted)?,
+        "footer" => read_footers(rt.alloc(), &bytes, &wanted)?,
+        "pages" => read_pages(&bytes, &wanted)?,
         _ => return Err(Trouble::Usage),
     };
     println!(rt; "{total}")?;

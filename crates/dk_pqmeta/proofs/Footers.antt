@@ -13,10 +13,11 @@ use Rattle.dk_grammar.proofs.StructSpellings.{structs, number_fields}
 use Rattle.dk_grammar.proofs.ListSpellings.{lists_by, turned_by, held_by}
 use Rattle.dk_pqmodel.specs.FileSchema.{FileNodes}
 use Rattle.dk_pqmodel.specs.Footer.{◌>=◌, Footer, RowGroup, FileFields, MeansFooter, meta_fields, chunk_fields, group_fields, element_fields, file_fields, each_of, element_of, group_of, natural}
-use Rattle.dk_pqmodel.specs.FooterBytes.{SpellsName, SpellsPath, SpellsMeta, SpellsChunk, SpellsGroup, SpellsElement, SpellsMetaData, SpellsFooter}
+use Rattle.dk_pqmodel.specs.FooterBytes.{SpellsName, SpellsPath, SpellsMeta, SpellsChunk, SpellsGroup, SpellsElement, SpellsMetaData, SpellsFooter, HasFooter}
 use Rattle.dk_pqmeta.specs.Readings.{name_at, path_at, meta_meaning, meta_at, chunk_meaning, chunk_at, group_meaning, group_at, element_meaning, element_at, file_meaning, file_at}
 use Rattle.dk_pqmeta.specs.Trees.{footer_from, tree_of}
 use Rattle.dk_pqmeta.specs.Footers.{whole_of, file_in}
+use Rattle.dk_pqmeta.proofs.Framing.{framed_once}
 use Rattle.dk_pqmeta.proofs.Trees.{none_is_not_some, some_is, some_bound, tree_found, tree_only}
 use Rattle.dk_grammar.specs.declared.thrift.Flaw.{Flaw}
 
@@ -112,3 +113,8 @@ footer_found bytes footer h =
 
 pub footer_only : (bytes : List ℕ) (footer : Footer) → SpellsFooter bytes footer → option_and_then footer_from (file_in bytes) ≡ Some footer
 footer_only bytes footer s = rw (file_only bytes s.0 s.1, means_only s.0 footer s.2) refl
+
+pub one_footer : (bytes : List ℕ) (footer other : Footer) → HasFooter bytes footer → HasFooter bytes other → footer ≡ other
+one_footer bytes footer other f g =
+    let same = framed_once bytes g.0 g.1 f.0 f.1 g.2 f.2 in
+    some_is footer other (sym (footer_only f.1 footer f.3) ∙ footer_only f.1 other (subst (λ b. SpellsFooter b other) same g.3))

@@ -8,6 +8,7 @@ mod file;
 mod footer;
 mod frame;
 mod group;
+pub mod laws;
 mod metadata;
 mod numbers;
 mod read;
