@@ -1,6 +1,6 @@
 -- The greatest of small versions is small.
 use Rattle.std.proofs.Common.{ℕ, ◌<◌, Bool, true, false, List, [], ◌∷◌, arith, cond}
-use Rattle.std.specs.Prelude.{Option, Some, None, All, IfSome}
+use Rattle.std.specs.Prelude.{Option, Some, None, All, IfSome, ◌==◌, ◌&&◌}
 use Rattle.std.specs.List.{AllByRecursion, fold}
 use Rattle.std.proofs.lemmas.List.Elements.{recursion_from_All, All-weaker}
 use Rattle.dk_store.specs.declared.event.Ratification.{Ratification}
@@ -39,7 +39,7 @@ commit_small limit Other small = tt
 complete_small : (has : ℕ → ℕ → ℕ → Bool) (limit : ℕ) (name : LogName) → version_in name < limit → IsBelow limit (complete_version has name)
 complete_small has limit (Commit v) small = tt
 complete_small has limit (Classic v) small = small
-complete_small has limit (Part v part parts) small = by (all_up_to (has v parts) parts)
+complete_small has limit (Part v part parts) small = by (part == 1 && all_up_to (has v parts) parts)
   where
     by : (all : Bool) → IsBelow limit (cond all (Some v) None)
     by true = small

@@ -42,13 +42,13 @@ unfoldable pub all_up_to : (ℕ → Bool) → ℕ → Bool
 all_up_to test zero = true
 all_up_to test (suc number) = test (suc number) && all_up_to test number
 
--- Whose complete checkpoint a name is of, where `has` tells the parts that are there by version, number of parts and own number: a
--- checkpoint in parts is complete where all of them are, and each other one is complete by itself.
+-- Whose complete checkpoint a name begins, where `has` tells the parts that are there by version, number of parts and own number: a
+-- checkpoint in parts begins with its part 1 and is complete where all of them are; each other one is complete by itself.
 abbrev pub complete_version : (ℕ → ℕ → ℕ → Bool) → LogName → Option ℕ
 complete_version has (Classic version) = Some version
 complete_version has (V2Json version id) = Some version
 complete_version has (V2Parquet version id) = Some version
-complete_version has (Part version part parts) = if all_up_to (has version parts) parts then Some version else None
+complete_version has (Part version part parts) = if part == 1 && all_up_to (has version parts) parts then Some version else None
 complete_version has (Commit version) = None
 complete_version has (Compacted first last) = None
 complete_version has Hint = None

@@ -41,7 +41,8 @@ fn has_all(set: &Parts, version: u64, parts: u32) -> bool
     true
 }
 
-/// The version of the complete checkpoint that this name is of, if it is of one.
+/// The version of the complete checkpoint that this name begins, if it begins one: of those in parts the first part is asked
+/// alone, so that each part is looked up once.
 fn complete_version(set: &Parts, name: &LogName) -> Option<u64>
     ensures { result ≡ newest.complete_version (has_part set.now) name.now }
 {
@@ -49,7 +50,11 @@ fn complete_version(set: &Parts, name: &LogName) -> Option<u64>
         LogName::Classic { version } => Some(version),
         LogName::V2Json { version, .. } => Some(version),
         LogName::V2Parquet { version, .. } => Some(version),
-        LogName::Part { version, parts, .. } if has_all(set, version, parts) => Some(version),
+        LogName::Part {
+            version,
+            part: 1,
+            parts,
+        } if has_all(set, version, parts) => Some(version),
         _ => None,
     }
 }
