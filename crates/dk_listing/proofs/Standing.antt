@@ -31,14 +31,14 @@ use Rattle.dk_listing.specs.OfEvents.{IsListingOf, stands_at}
 
 -- ---- tests of lists
 
-any_map : {X Y : Type 0} (f : X → Y) (test : Y → Bool) (xs : List X) → list_any test (map f xs) ≡ list_any (λ x. test (f x)) xs
+pub any_map : {X Y : Type 0} (f : X → Y) (test : Y → Bool) (xs : List X) → list_any test (map f xs) ≡ list_any (λ x. test (f x)) xs
 any_map f test [] = refl
 any_map f test (x ∷ xs) = ap (λ (b : Bool). test (f x) || b) (any_map f test xs)
 
 any_same : {X : Type 0} (test other : X → Bool) → ((x : X) → test x ≡ other x) → (xs : List X) → list_any test xs ≡ list_any other xs
 any_same {X} test other same xs = let tests : test ≡ other = λ i x. same x i in ap (λ (t : X → Bool). list_any t xs) tests
 
-abbrev passes : {Y : Type 0} → (Y → Bool) → Option Y → Bool
+abbrev pub passes : {Y : Type 0} → (Y → Bool) → Option Y → Bool
 passes test None = false
 passes test (Some y) = test y
 
@@ -73,7 +73,7 @@ no_slash_in_digits zero number = refl
 no_slash_in_digits (suc count) number =
     rw (list_any-append is_slash (digits count (number / 10)) ((48 + number % 10) ∷ []), no_slash_in_digits count (number / 10), digit_is_no_slash number) refl
 
-no_slash_in_commit : (version : ℕ) → list_any is_slash (commit_name version) ≡ false
+pub no_slash_in_commit : (version : ℕ) → list_any is_slash (commit_name version) ≡ false
 no_slash_in_commit version = rw (list_any-append is_slash (digits 20 version) (codes ".json"), no_slash_in_digits 20 version) refl
 
 first_false : (a b c : Bool) → (not (a || b) && c) ≡ true → a ≡ false
@@ -86,7 +86,7 @@ no_slash_in_id id =
     first_false (list_any is_slash (id_text id)) (list_any is_slash (codes ".parquet")) (ends_in_parquet (sidecar_name id))
     (ap (λ (b : Bool). not b && ends_in_parquet (sidecar_name id)) (sym split) ∙ is_sidecar_name-sidecar_name id)
 
-no_slash_in_staged : (version id : ℕ) → list_any is_slash (staged_name version id) ≡ false
+pub no_slash_in_staged : (version id : ℕ) → list_any is_slash (staged_name version id) ≡ false
 no_slash_in_staged version id =
     list_any-append is_slash (digits 20 version) (codes "." ++ (id_text id ++ codes ".json"))
     ∙ ap₂ (λ (a b : Bool). a || b) (no_slash_in_digits 20 version) (list_any-append is_slash (id_text id) (codes ".json"))
@@ -99,7 +99,7 @@ is_some-map name None = refl
 is_some-map name (Some stored) = refl
 
 -- at no lower bound each name is listed
-not_below_empty : (name : List ℕ) → is_lt (path_cmp name []) ≡ false
+pub not_below_empty : (name : List ℕ) → is_lt (path_cmp name []) ≡ false
 not_below_empty [] = refl
 not_below_empty (b ∷ bs) = refl
 
@@ -144,7 +144,7 @@ lists_commit events found is version small =
 
 -- ---- staged commits
 
-abbrev is_staged_as : ℕ → ℕ → (ℕ × ℕ) × Listed → Bool
+abbrev pub is_staged_as : ℕ → ℕ → (ℕ × ℕ) × Listed → Bool
 is_staged_as version id e = e.0.0 == version && e.0.1 == id
 
 staged_read : (version id : ℕ) (entry : Listed) (found : Option (ℕ × ℕ)) → IsStagedNameOf entry.name found
@@ -158,7 +158,7 @@ staged_read version id entry (Some staged) names h =
     same_number m n h = elim (eqb_tells m n) [ inl t ↦ t.1 | inr f ↦ absurd (true≢false (sym h ∙ f.0)) ]
 
 -- a name means a staged commit exactly where it is its name
-is_staged : (version id : ℕ) → IsStaged version id → (entry : Listed) → passes (is_staged_as version id) (in_staged entry) ≡ bytes_eq entry.name (staged_name version id)
+pub is_staged : (version id : ℕ) → IsStaged version id → (entry : Listed) → passes (is_staged_as version id) (in_staged entry) ≡ bytes_eq entry.name (staged_name version id)
 is_staged version id allowed entry = same_from_decides _ _ (
   staged_read version id entry (staged_of entry.name) (IsStagedNameOf-staged_of entry.name),
   λ e. ap (λ (found : Option (ℕ × ℕ)). passes (is_staged_as version id) (option_map (λ staged. (staged, entry)) found)) (staged_of-spelled entry.name version id allowed (sym e))
