@@ -7,7 +7,7 @@ use Rattle.dk_model.specs.State.{fold}
 use Rattle.dk_engine.specs.declared.refusal.Refusal.{Refusal}
 use Rattle.dk_engine.specs.declared.refusal.Refusal.TheVariants as refusals
 use Rattle.dk_snapshot.specs.History.{IsLog, AsksFor}
-use Rattle.dk_snapshot.specs.Support.{IsRead, cut_before}
+use Rattle.dk_snapshot.specs.Support.{IsRead, cut_before, first_commit}
 use Rattle.dk_snapshot.specs.Opened.{with_cut}
 use Rattle.dk_snapshot.proofs.History.{opened_is, cut_is}
 use Rattle.dk_cli.specs.declared.status.Status.{Status}
@@ -32,7 +32,7 @@ show_log : (events : List Told) (at : Option ℕ) (now : ℤ) (log : List (List 
     → show events at now ≡ Ok (shown version (fold (take (version + 1) log)) (cut_before now kept))
 show_log events at now log version kept is asks read =
     ap text_of_opened (opened_is events log at version now is asks)
-    ∙ ap (λ cut. text_of_opened (with_cut version (fold (take (version + 1) log)) cut)) (cut_is (fold (take (version + 1) log)) kept now read)
+    ∙ ap (λ cut. text_of_opened (with_cut version (fold (take (version + 1) log)) cut)) (cut_is first_commit (fold (take (version + 1) log)) kept now read)
 
 -- the program's answer over a store that tells a whole log
 pub whole_log : (told : Option (List Told)) (asked : Option (Option ℕ)) (given at : Option ℕ) (now passed : ℤ) (old new : Option (List ℕ)) (status : Status) → asked ≡ Some given → asked ≡ Some at → passed ≡ now

@@ -8,7 +8,7 @@ ghost use Rattle.dk_cli.specs.Show.{show, text_of_snapshot};
 
 use crate::text::shown_text;
 use dk_engine::{Engine, Refusal};
-use dk_snapshot::{Snapshot, open_at};
+use dk_snapshot::commits::{Snapshot, open_at};
 use std::alloc::{AllocError, Global};
 
 /// The text of a snapshot.

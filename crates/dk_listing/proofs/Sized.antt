@@ -6,15 +6,14 @@ use Rattle.std.specs.List.{filter_map, cons_option, list_any}
 use Rattle.std.proofs.lemmas.Slice.Eq.{bytes_eq-Decides}
 use Rattle.dk_store.specs.Told.{Told, Listed, Stored}
 use Rattle.dk_store.specs.Views.{listed}
-use Rattle.dk_store.specs.Listing.{listing, listed_as, path_in}
+use Rattle.dk_store.specs.Listing.{listing, listed_as, path_in, behind}
 use Rattle.dk_store.specs.Objects.{object}
-use Rattle.dk_store.proofs.Folders.{find-listing}
+use Rattle.dk_store.proofs.Folders.{find-listing, append_from_behind}
 use Rattle.dk_paths.specs.declared.log_name.LogName.{LogName}
 use Rattle.dk_paths.specs.Names.{commit_name}
 use Rattle.dk_paths.specs.Numbers.{version_text}
-use Rattle.dk_paths.specs.Places.{Commit_at, Staged, place_path, behind, staged_front}
+use Rattle.dk_paths.specs.Places.{Commit_at, Staged, place_path, staged_front}
 use Rattle.dk_paths.specs.Staged.{IsStaged, staged_name, staged_of}
-use Rattle.dk_paths.proofs.PlaceLaws.{behind-some}
 use Rattle.dk_paths.proofs.Spelled.{version_is_digits}
 use Rattle.dk_paths.proofs.StagedNames.{staged_of-spelled}
 use Rattle.dk_listing.specs.declared.catalogued.Catalogued.{Catalogued}
@@ -63,7 +62,7 @@ not_staged version = by (behind staged_front (commit_name version)) refl
   where
     by : (found : Option (List ℕ)) → behind staged_front (commit_name version) ≡ found → found ≡ None
     by None is = refl
-    by (Some rest) is = absurd (no_front version rest (behind-some staged_front (commit_name version) rest is))
+    by (Some rest) is = absurd (no_front version rest (sym (append_from_behind staged_front (commit_name version) rest is)))
 
 pub commit_size : (events : List Told) (found : Catalogued) → IsListingOf events found → (version : ℕ) → listed_size found (place_path (Commit_at version)) ≡ stored_size events (place_path (Commit_at version))
 commit_size events found is version =

@@ -3,8 +3,9 @@ use Rattle.std.specs.Prelude.{ℕ, Option, Some, None, List, length, map, find, 
 use Rattle.std.specs.Str.{bytes_eq}
 use Rattle.dk_store.specs.Told.{Told, Stored, Listed}
 use Rattle.dk_store.specs.Objects.{object}
+use Rattle.dk_store.specs.Listing.{behind}
 use Rattle.dk_store.specs.Views.{listed}
-use Rattle.dk_paths.specs.Places.{behind, log_front, staged_front}
+use Rattle.dk_paths.specs.Places.{log_front, staged_front}
 use Rattle.dk_listing.specs.declared.catalogued.Catalogued.{Catalogued}
 use Rattle.dk_listing.specs.declared.named.Named.{Named}
 use Rattle.dk_listing.specs.declared.named.Staged as entries

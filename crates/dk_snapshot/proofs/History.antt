@@ -107,8 +107,8 @@ pub opened_is : (events : List Told) (log : List (List Action)) (at : Option ℕ
 opened_is events log at version now is asks = opened_of_log events log is at version asks now
 
 -- the cut of a state that passes the tests
-pub cut_is : (state : TableState) (kept now : ℤ) → IsRead state kept → cut_of state now ≡ Ok (cut_before now kept)
-cut_is state kept now read =
-    ap₂ (λ p m. cut_with p m state.files now) read.has_protocol read.has_metadata
+pub cut_is : (oldest : List ℕ) (state : TableState) (kept now : ℤ) → IsRead state kept → cut_of oldest state now ≡ Ok (cut_before now kept)
+cut_is oldest state kept now read =
+    ap₂ (λ p m. cut_with oldest p m state.files now) read.has_protocol read.has_metadata
     ∙ ap₂ (λ reader vectors. cut_unless (if not reader then Some (codes "minReaderVersion " ++ decimal read.protocol.min_reader) else if vectors then Some (codes "deletionVectors") else None) (retention read.metadata) now) read.reader read.vectors
     ∙ ap (λ kept. cut_by kept now) read.retention
