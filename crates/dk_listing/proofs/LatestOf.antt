@@ -15,7 +15,7 @@ use Rattle.dk_listing.specs.Latest.{latest_of, latest_among, part_among}
 use Rattle.dk_listing.specs.OfEvents.{IsListingOf, latest}
 use Rattle.dk_listing.proofs.Standing.{any_map}
 
-newest_map : {X Y : Type 0} (version : Y → Option ℕ) (view : X → Y) (xs : List X) → newest_by version (map view xs) ≡ newest_by (λ x. version (view x)) xs
+pub newest_map : {X Y : Type 0} (version : Y → Option ℕ) (view : X → Y) (xs : List X) → newest_by version (map view xs) ≡ newest_by (λ x. version (view x)) xs
 newest_map version view xs = fold-map (λ best y. later best (version y)) view None xs
 
 -- the parts that are listed, by content

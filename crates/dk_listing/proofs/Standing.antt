@@ -12,7 +12,7 @@ use Rattle.std.proofs.lemmas.Slice.Eq.{bytes_eq-Decides}
 use Rattle.dk_store.specs.Told.{Told, Listed, Stored}
 use Rattle.dk_store.specs.Listing.{listing, listed_as, path_in}
 use Rattle.dk_store.specs.Objects.{object, path_cmp}
-use Rattle.dk_store.specs.Standings.{standing, standings}
+use Rattle.dk_store.specs.Standings.{ratified_from, standing, standings}
 use Rattle.dk_store.proofs.Folders.{find-listing}
 use Rattle.dk_store.proofs.Lookups.{get-standings, same_version}
 use Rattle.dk_paths.specs.declared.log_name.LogName.{LogName}
@@ -35,14 +35,14 @@ pub any_map : {X Y : Type 0} (f : X → Y) (test : Y → Bool) (xs : List X) →
 any_map f test [] = refl
 any_map f test (x ∷ xs) = ap (λ (b : Bool). test (f x) || b) (any_map f test xs)
 
-any_same : {X : Type 0} (test other : X → Bool) → ((x : X) → test x ≡ other x) → (xs : List X) → list_any test xs ≡ list_any other xs
+pub any_same : {X : Type 0} (test other : X → Bool) → ((x : X) → test x ≡ other x) → (xs : List X) → list_any test xs ≡ list_any other xs
 any_same {X} test other same xs = let tests : test ≡ other = λ i x. same x i in ap (λ (t : X → Bool). list_any t xs) tests
 
 abbrev pub passes : {Y : Type 0} → (Y → Bool) → Option Y → Bool
 passes test None = false
 passes test (Some y) = test y
 
-any_filter_map : {X Y : Type 0} (f : X → Option Y) (test : Y → Bool) (xs : List X) → list_any test (filter_map f xs) ≡ list_any (λ x. passes test (f x)) xs
+pub any_filter_map : {X Y : Type 0} (f : X → Option Y) (test : Y → Bool) (xs : List X) → list_any test (filter_map f xs) ≡ list_any (λ x. passes test (f x)) xs
 any_filter_map f test [] = refl
 any_filter_map {X} {Y} f test (x ∷ xs) = by (f x) (any_filter_map f test xs)
   where
@@ -133,14 +133,20 @@ is_commit version small text = same_from_decides _ _ (
 )
     (bytes_eq-Decides text (commit_name version))
 
+-- a commit is among the names of the log's folder exactly where it stands
+pub commit_listed : (events : List Told) (version : ℕ) → version < 2 ^ 63
+    → list_any (λ (entry : Listed). is_at (Commit_at version) (name_of entry.name)) (listing events (codes "_delta_log") []) ≡ stands_at events (Commit_at version)
+commit_listed events version small =
+    any_same (λ (entry : Listed). is_at (Commit_at version) (name_of entry.name)) (λ (entry : Listed). bytes_eq entry.name (commit_name version)) (λ entry. is_commit version small entry.name) (listing events (codes "_delta_log") [])
+    ∙ lists_name events (codes "_delta_log") (commit_name version) (no_slash_in_commit version)
+
 -- a commit is listed exactly where it stands
 pub lists_commit : (events : List Told) (found : Catalogued) → IsListingOf events found → (version : ℕ) → version < 2 ^ 63 → lists found (Commit_at version) ≡ stands_at events (Commit_at version)
 lists_commit events found is version small =
     sym (any_map named_entry (λ (e : LogName × Listed). is_at (Commit_at version) e.0) found.log.items)
     ∙ ap (list_any (λ (e : LogName × Listed). is_at (Commit_at version) e.0)) is.log
     ∙ any_map in_log (λ (e : LogName × Listed). is_at (Commit_at version) e.0) (listing events (codes "_delta_log") [])
-    ∙ any_same (λ (entry : Listed). is_at (Commit_at version) (name_of entry.name)) (λ (entry : Listed). bytes_eq entry.name (commit_name version)) (λ entry. is_commit version small entry.name) (listing events (codes "_delta_log") [])
-    ∙ lists_name events (codes "_delta_log") (commit_name version) (no_slash_in_commit version)
+    ∙ commit_listed events version small
 
 -- ---- staged commits
 
@@ -189,10 +195,15 @@ name_found : (es : List (ℕ × List ℕ)) (version : ℕ) → name_at es versio
 name_found [] version = refl
 name_found (e ∷ es) version = ap₂ (λ (t : Bool) (o : Option (List ℕ)). cond t (Some e.1) o) (sym (same_version e.0 version)) (name_found es version)
 
--- a version's name is the one under which it stands ratified
-pub names_standing : (events : List Told) (found : Catalogued) → IsListingOf events found → (version : ℕ) → ratified_name found version ≡ standing events version
-names_standing events found is version =
-    ap (λ (es : List (ℕ × List ℕ)). name_at es version) (is.ratified ∙ all_kept (entries (standings events)))
+-- the name of a version among all ratifications is the one under which it stands ratified
+pub name_at_standing : (events : List Told) (version : ℕ) → name_at (ratified_from events 0) version ≡ standing events version
+name_at_standing events version =
+    ap (λ (es : List (ℕ × List ℕ)). name_at es version) (all_kept (entries (standings events)))
     ∙ name_found (entries (standings events)) version
     ∙ sym (get-entries (standings events) version)
     ∙ get-standings events version
+
+-- a version's name is the one under which it stands ratified
+pub names_standing : (events : List Told) (found : Catalogued) → IsListingOf events found → (version : ℕ) → ratified_name found version ≡ standing events version
+names_standing events found is version =
+    ap (λ (es : List (ℕ × List ℕ)). name_at es version) is.ratified ∙ name_at_standing events version

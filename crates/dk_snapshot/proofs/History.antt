@@ -41,7 +41,7 @@ meant_is : (path : List ℕ) (r : Result (List Action) ℕ) (x : List Action) �
 meant_is path (Ok actions) x h = let same : actions ≡ x = cc in ap Ok same
 meant_is path (Err line) x h = cc
 
-commit_of_object-is : (path : List ℕ) (c : Option (List ℕ)) (x : List Action) → option_and_then commit_of c ≡ Some x → commit_of_object path c ≡ Ok x
+pub commit_of_object-is : (path : List ℕ) (c : Option (List ℕ)) (x : List Action) → option_and_then commit_of c ≡ Some x → commit_of_object path c ≡ Ok x
 commit_of_object-is path None x h = cc
 commit_of_object-is path (Some bytes) x h = meant_is path (reading_of bytes) x h
 
@@ -63,7 +63,7 @@ counted_at test (Some asked) latest log version last (is, below) all =
     if_within (nat_le asked latest) (count_of test asked) (Err (NoVersion latest)) least ∙ ap (count_of test) (sym is) ∙ counted test version (λ w le. all w (omega arith))
 
 module _ (events : List Told) (log : List (List Action)) (is : IsLog events log) where
-  stands_in : (v : ℕ) → v < length log → stands events v ≡ true
+  pub stands_in : (v : ℕ) → v < length log → stands events v ≡ true
   stands_in v lt = some_content events (commit_path v) (get_or log v []) (is.each v lt ∙ slice_get-get_or log v [] lt)
 
   stands_above : (v : ℕ) → length log ≤ v → v < 2 ^ 63 → stands events v ≡ false
@@ -76,7 +76,7 @@ module _ (events : List Told) (log : List (List Action)) (is : IsLog events log)
       let here : commit_at events k ≡ Ok (get_or log k []) = commit_of_object-is (commit_path k) (content events (commit_path k)) (get_or log k []) (is.each k lt ∙ slice_get-get_or log k [] lt) in
       rw (here, log_commits k (omega arith), take-suc log k [] lt) refl
 
-  latest_of_log : greatest_below (stands events) (2 ^ 63) ≡ Some (length log - 1)
+  pub latest_of_log : greatest_below (stands events) (2 ^ 63) ≡ Some (length log - 1)
   latest_of_log =
       let some : 0 < length log = is.some in
       let small : length log ≤ 2 ^ 63 = is.small in

@@ -8,3 +8,4 @@ pub mod History
 pub mod SizeMaps
 pub mod StepReads
 pub mod Segments
+pub mod PlainLog

@@ -22,7 +22,7 @@ behind_older-newest (Ok xs) commit newer = ap Ok (append_assoc xs (commit ∷ []
 behind_older-newest (Err refusal) commit newer = refl
 
 -- one more step is the newest
-commits_last : (events : List Told) (limit : ℕ) (steps : List Step) (step : Step) → commits_of events limit (steps ++ step ∷ []) ≡ newest_behind (commit_in events limit (step_path step)) (commits_of events limit steps)
+pub commits_last : (events : List Told) (limit : ℕ) (steps : List Step) (step : Step) → commits_of events limit (steps ++ step ∷ []) ≡ newest_behind (commit_in events limit (step_path step)) (commits_of events limit steps)
 commits_last events limit steps step = ap (commits_back events limit) (reverse-append steps (step ∷ []))
 
 -- the step at a place is the newest of those up to it
