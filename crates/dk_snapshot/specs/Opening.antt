@@ -1,10 +1,11 @@
 -- A version of a table, by the events of the store alone.
-use Rattle.std.specs.Prelude.{ℕ, ℤ, List, Option, Result, Ok, Err}
+use Rattle.std.specs.Prelude.{ℕ, ℤ, true, false, List, Option, Result, Ok, Err}
 use Rattle.dk_store.specs.Told.{Told}
 use Rattle.dk_store.specs.Standings.{standing}
 use Rattle.dk_model.specs.declared.action.Action.{Action}
 use Rattle.dk_model.specs.declared.state.TableState.{TableState}
 use Rattle.dk_model.specs.State.{fold}
+use Rattle.dk_lawful.specs.declared.segment.Checkpoints.TheVariants.{Newest}
 use Rattle.dk_lawful.specs.declared.segment.Choice.{Choice}
 use Rattle.dk_lawful.specs.declared.segment.Segment.{Segment}
 use Rattle.dk_engine.specs.declared.limits.Limits.{Limits}
@@ -15,6 +16,10 @@ use Rattle.dk_snapshot.specs.declared.table.Snapshot.{Snapshot}
 use Rattle.dk_snapshot.specs.Asked.{version_asked}
 use Rattle.dk_snapshot.specs.Steps.{commits_of, oldest_path}
 use Rattle.dk_snapshot.specs.Support.{cut_of}
+
+-- the choice under which versions are opened usually
+abbrev pub usual_choice : Choice
+usual_choice = record { checkpoints = Newest; compacted = true; staged_first = false }
 
 -- ---- what is read from a segment
 

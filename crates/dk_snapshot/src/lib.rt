@@ -12,11 +12,13 @@ mod snapshot;
 mod steps;
 mod support;
 mod table;
+mod usual;
 mod versions;
 
 pub use catalogue::survey;
 pub use opening::{open_at, open_listed};
 pub use table::Snapshot;
+pub use usual::usual_choice;
 
 /// Versions over commit files alone, whatever stands ratified.
 pub mod commits {
