@@ -30,7 +30,15 @@ fn open(alloc: Global, engine: &mut Engine, at: Option<u64>, now: i64) -> Result
 {
     let choice = usual_choice();
     let limits = engine.limits;
-    open_at(alloc, &mut *engine.store, &mut *engine.json, limits, at, &choice, now)
+    open_at(
+        alloc,
+        &mut *engine.store,
+        &mut *engine.json,
+        limits,
+        at,
+        &choice,
+        now,
+    )
 }
 
 /// The whole output of `show` of a version.

@@ -183,7 +183,12 @@ fn strings(alloc: Global, words: &[&str]) -> Result<Vec<String>, AllocError> {
 }
 
 /// Makes one call of `run` and compares all that it answers.
-fn try_case(rt: &impl Abort, alloc: Global, case: &Case, store: MemStore) -> Result<(), AllocError> {
+fn try_case(
+    rt: &impl Abort,
+    alloc: Global,
+    case: &Case,
+    store: MemStore,
+) -> Result<(), AllocError> {
     let mut engine = Engine {
         store: Box::new(alloc, store)?,
         json: Box::new(alloc, SerdeJson::new())?,

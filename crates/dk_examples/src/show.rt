@@ -69,8 +69,7 @@ const FOREIGN_A: &str =
     r#"{"add":{"dataChange":false,"modificationTime":5,"partitionValues":{"p":null},"path":"a","size":1,"stats":"{\"n\":\"é\\\"}"}}
 "#;
 
-const FOREIGN_B: &str =
-    r#"{"remove":{"dataChange":false,"deletionTimestamp":9500000000,"path":"b"}}
+const FOREIGN_B: &str = r#"{"remove":{"dataChange":false,"deletionTimestamp":9500000000,"path":"b"}}
 "#;
 
 const TXN_B: &str = r#"{"txn":{"appId":"b","version":7}}

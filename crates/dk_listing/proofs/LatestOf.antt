@@ -1,7 +1,6 @@
 -- The latest version of a listing is that of its content, so over a told store it is that of the events.
-use Rattle.std.proofs.Common.{◌≡◌, ℕ, Bool, List, map, refl, ap, ap₂, sym, ◌∙◌}
+use Rattle.std.proofs.Common.{◌≡◌, ℕ, Bool, List, map, ap, ap₂, sym, ◌∙◌}
 use Rattle.std.specs.Prelude.{Option, Some, None}
-use Rattle.std.specs.List.{fold}
 use Rattle.std.proofs.lemmas.List.Folds.{fold-map}
 use Rattle.dk_store.specs.Told.{Told, Listed}
 use Rattle.dk_store.specs.declared.event.Ratification.{Ratification}

@@ -1,24 +1,20 @@
 -- Over a told store the listed size of a commit is that of the object that stands there.
-use Rattle.std.proofs.Common.{◌≡◌, ℕ, ◌<◌, ◌≤◌, ◌^◌, ◌++◌, List, [], ◌∷◌, map, refl, ap, ap₂, sym, ◌∙◌, Bool, true, false, true≢false, cond, arith, codes}
-use Rattle.std.specs.Prelude.{Option, Some, None, find, option_map, length, ◌==◌}
+use Rattle.std.proofs.Common.{◌≡◌, ℕ, ◌≤◌, ◌++◌, List, [], ◌∷◌, map, refl, ap, ap₂, sym, ◌∙◌, Bool, true, false, cond, arith, codes}
+use Rattle.std.specs.Prelude.{Option, Some, None, find, option_map, ◌==◌}
 use Rattle.std.specs.Str.{bytes_eq}
 use Rattle.std.specs.List.{filter_map, cons_option, list_any}
 use Rattle.std.proofs.lemmas.Slice.Eq.{bytes_eq-Decides}
 use Rattle.dk_store.specs.Told.{Told, Listed, Stored}
-use Rattle.dk_store.specs.Views.{listed}
 use Rattle.dk_store.specs.Listing.{listing, listed_as, path_in, behind}
 use Rattle.dk_store.specs.Objects.{object}
 use Rattle.dk_store.proofs.Folders.{find-listing, append_from_behind}
 use Rattle.dk_paths.specs.declared.log_name.LogName.{LogName}
 use Rattle.dk_paths.specs.Names.{commit_name}
-use Rattle.dk_paths.specs.Numbers.{version_text}
 use Rattle.dk_paths.specs.Places.{Commit_at, Staged, place_path, staged_front}
 use Rattle.dk_paths.specs.Staged.{IsStaged, staged_name, staged_of}
 use Rattle.dk_paths.proofs.Spelled.{version_is_digits}
 use Rattle.dk_paths.proofs.StagedNames.{staged_of-spelled}
 use Rattle.dk_listing.specs.declared.catalogued.Catalogued.{Catalogued}
-use Rattle.dk_listing.specs.declared.named.Named.{Named}
-use Rattle.dk_listing.specs.declared.named.Staged as entries
 use Rattle.dk_listing.specs.Entries.{in_log, in_staged, named_entry, staged_entry}
 use Rattle.dk_listing.specs.OfEvents.{IsListingOf}
 use Rattle.dk_listing.specs.Sizes.{size_of_name, log_entries, staged_entries, size_in_log, listed_size, size_of_object, stored_size}

@@ -7,8 +7,6 @@ use Rattle.dk_store.specs.Listing.{behind}
 use Rattle.dk_store.specs.Views.{listed}
 use Rattle.dk_paths.specs.Places.{log_front, staged_front}
 use Rattle.dk_listing.specs.declared.catalogued.Catalogued.{Catalogued}
-use Rattle.dk_listing.specs.declared.named.Named.{Named}
-use Rattle.dk_listing.specs.declared.named.Staged as entries
 
 -- the size under a name, by the first entry that has it
 abbrev pub size_of_name : List Listed → List ℕ → Option ℕ

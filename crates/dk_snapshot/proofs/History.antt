@@ -1,6 +1,6 @@
 -- Over a whole log, a version is the fold of the commits up to it.
 use Rattle.std.proofs.Common.{◌≡◌, ℕ, ℤ, suc, zero, ◌+◌, ◌-◌, ◌<◌, ◌≤◌, ◌^◌, List, [], length, take, get_or, refl, ap, ap₂, sym, ◌∙◌, Bool, true, false, not, true≢false, ◌++◌, codes, decimal, arith}
-use Rattle.std.specs.Prelude.{Option, Some, None, Result, Ok, Err, IfSome, option_and_then, option_map, is_some, nat_le, if◌then◌else◌}
+use Rattle.std.specs.Prelude.{Option, Some, None, Result, Ok, Err, option_and_then, option_map, is_some, nat_le, if◌then◌else◌}
 use Rattle.std.proofs.lemmas.Option.{slice_get-get_or}
 use Rattle.std.proofs.Math.Seq.{take-suc}
 use Rattle.std.proofs.lemmas.List.{length-take-le}
@@ -12,14 +12,13 @@ use Rattle.dk_model.specs.State.{fold}
 use Rattle.dk_model.specs.CommitText.{commit_of, reading_of}
 use Rattle.dk_model.specs.CommitText as texts
 use Rattle.dk_paths.specs.Names.{commit_path}
-use Rattle.dk_engine.specs.declared.refusal.Refusal.{Refusal}
 use Rattle.dk_engine.specs.declared.refusal.Refusal.TheVariants.{NoVersion}
 use Rattle.dk_model.specs.declared.state.TableState.{TableState}
 use Rattle.dk_snapshot.specs.Log.{commits_below, commits_planned, commit_of_object, commit_at, meant}
 use Rattle.dk_snapshot.specs.Opened.{snapshot_of, version_of, opened}
 use Rattle.dk_snapshot.specs.History.{IsLog, AsksFor}
 use Rattle.dk_snapshot.specs.Plan.{stands, greatest_below, plan, count_of, count_at, count_from}
-use Rattle.dk_snapshot.specs.Support.{IsRead, is_reader_known, retention, cut_before, cut_by, cut_unless, cut_with, cut_of}
+use Rattle.dk_snapshot.specs.Support.{IsRead, retention, cut_before, cut_by, cut_unless, cut_with, cut_of}
 use Rattle.dk_snapshot.proofs.Greatest.{greatest_below-is, first_failing-none}
 
 -- a commit that is read is there

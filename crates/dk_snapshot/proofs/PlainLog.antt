@@ -1,8 +1,8 @@
 -- Over a log of commits alone, where nothing stands ratified and no checkpoint is listed, a version is the fold of the commits up to it.
-use Rattle.std.proofs.Common.{◌≡◌, ℕ, ℤ, suc, zero, ◌+◌, ◌-◌, ◌<◌, ◌≤◌, ◌^◌, List, [], ◌∷◌, ◌++◌, length, take, drop, get_or, map, reverse, refl, ap, ap₂, sym, subst, ◌∙◌, Bool, true, false, true≢false, arith, codes, inl, inr, eq-eqb, cond}
-use Rattle.std.specs.Prelude.{All, Option, Some, None, Result, Ok, Err, IfSome, nat_le, nat_lt, ◌==◌, option_map, is_some, if◌then◌else◌}
+use Rattle.std.proofs.Common.{◌≡◌, ℕ, ℤ, suc, zero, ◌+◌, ◌-◌, ◌<◌, ◌≤◌, ◌^◌, List, [], ◌∷◌, ◌++◌, length, take, get_or, map, refl, ap, ap₂, sym, subst, ◌∙◌, Bool, true, false, true≢false, arith, codes, inl, inr, eq-eqb}
+use Rattle.std.specs.Prelude.{Option, Some, None, Result, Ok, Err, IfSome, nat_le, nat_lt, ◌==◌, option_map, is_some, if◌then◌else◌}
 use Rattle.std.specs.Option.{option_or}
-use Rattle.std.specs.List.{AllByRecursion, fold, filter_map, cons_option, list_any}
+use Rattle.std.specs.List.{AllByRecursion, fold, filter_map, cons_option}
 use Rattle.std.proofs.lemmas.Bool.{le-leb}
 use Rattle.std.proofs.lemmas.Bool.Decides.{nat_tests}
 use Rattle.std.proofs.Math.Seq.{take-suc}
@@ -15,7 +15,7 @@ use Rattle.dk_store.specs.Standings.{standing, ratified_from}
 use Rattle.dk_paths.specs.declared.log_name.LogName.{LogName}
 use Rattle.dk_paths.specs.declared.log_name.LogName.TheVariants as names
 use Rattle.dk_paths.specs.Names.{commit_path, name_of}
-use Rattle.dk_paths.specs.Places.{Place, Commit_at, place_path}
+use Rattle.dk_paths.specs.Places.{Place, Commit_at}
 use Rattle.dk_paths.proofs.Meanings.{named_commit}
 use Rattle.dk_model.specs.declared.action.Action.{Action}
 use Rattle.dk_model.specs.State as states
@@ -23,11 +23,10 @@ use Rattle.dk_lawful.specs.declared.segment.Choice.{Choice}
 use Rattle.dk_lawful.specs.declared.segment.Segment.{Segment}
 use Rattle.dk_lawful.specs.declared.segment.Step.{Step}
 use Rattle.dk_lawful.specs.declared.segment.Step.TheVariants as steps
-use Rattle.dk_lawful.specs.Segments.{staged_at, published_at, commit_place, before_later, steps_from, gap_from, segment_of, first_gap}
+use Rattle.dk_lawful.specs.Segments.{staged_at, commit_place, before_later, steps_from, gap_from, segment_of}
 use Rattle.dk_engine.specs.declared.limits.Limits.{Limits}
-use Rattle.dk_engine.specs.declared.limits.Which.TheVariants.{Object}
 use Rattle.dk_engine.specs.declared.refusal.Refusal.{Refusal}
-use Rattle.dk_engine.specs.declared.refusal.Refusal.TheVariants.{Limit, NoVersion}
+use Rattle.dk_engine.specs.declared.refusal.Refusal.TheVariants.{NoVersion}
 use Rattle.dk_listing.specs.Entries.{in_log}
 use Rattle.dk_listing.specs.Latest.{part_among}
 use Rattle.dk_listing.specs.Newest.{later, newest_by, commit_version, complete_version}
@@ -39,12 +38,11 @@ use Rattle.dk_listing.proofs.Standing.{any_filter_map, any_same, passes, commit_
 use Rattle.dk_segment.specs.Chosen.{chosen, unless_gap}
 use Rattle.dk_snapshot.specs.Asked.{version_asked, version_at}
 use Rattle.dk_snapshot.specs.History.{IsLog, AsksFor, IsPlain, is_checkpoint, AreWithin}
-use Rattle.dk_snapshot.specs.Log.{behind_older, newest_behind, commit_of_object}
-use Rattle.dk_snapshot.specs.Opening.{state_of, state_read, read_of, snapshot_with, opened_segment, opened_chosen, opened_asked, opened}
-use Rattle.dk_snapshot.specs.declared.table.Snapshot.{Snapshot}
+use Rattle.dk_snapshot.specs.Log.{newest_behind, commit_of_object}
+use Rattle.dk_snapshot.specs.Opening.{state_of, state_read, snapshot_with, opened_chosen, opened_asked, opened}
 use Rattle.dk_snapshot.specs.Plan.{stands, greatest_below}
-use Rattle.dk_snapshot.specs.Steps.{commit_in, commits_back, commits_of, fits, if_fits, oldest_path}
-use Rattle.dk_snapshot.specs.Versions.{has_version, greater, greatest_from, greatest}
+use Rattle.dk_snapshot.specs.Steps.{commit_in, commits_of, fits, if_fits, oldest_path}
+use Rattle.dk_snapshot.specs.Versions.{greater, greatest_from}
 use Rattle.dk_snapshot.proofs.StepReads.{commits_last}
 use Rattle.dk_snapshot.proofs.Greatest.{Has, has_cases, greatest_below-list}
 use Rattle.dk_snapshot.proofs.History.{commit_of_object-is, latest_of_log, stands_in}
@@ -126,9 +124,9 @@ newest_stands events =
     newest_map (λ (e : LogName × Listed). commit_version e.0) in_log es
     ∙ newest_greatest version None es
     ∙ sym (greatest_below-list (filter_map version es) (stands events) (2 ^ 63) (all_small es) (λ w less.
-      any_filter_map version (λ (v : ℕ). v == w) es
-      ∙ any_same (λ (e : Listed). passes (λ (v : ℕ). v == w) (version e)) (λ (e : Listed). is_at (Commit_at w) (name_of e.name)) (λ e. version_is w (name_of e.name)) es
-      ∙ commit_listed events w less))
+    any_filter_map version (λ (v : ℕ). v == w) es
+    ∙ any_same (λ (e : Listed). passes (λ (v : ℕ). v == w) (version e)) (λ (e : Listed). is_at (Commit_at w) (name_of e.name)) (λ e. version_is w (name_of e.name)) es
+    ∙ commit_listed events w less))
 
 first_stands : (e : ℕ × List ℕ) (es : List (ℕ × List ℕ)) → name_at (e ∷ es) e.0 ≡ None → ⊥
 first_stands e es none = let there : name_at (e ∷ es) e.0 ≡ Some e.1 = rw (eq-eqb e.0 e.0 refl) refl in let no : ◌≡◌ {A = Option (List ℕ)} (Some e.1) None = sym there ∙ none in cc
@@ -151,7 +149,7 @@ module _ (events : List Told) (plain : IsPlain events) where
   pub latest_plain : latest events ≡ greatest_below (stands events) (2 ^ 63)
   latest_plain =
       ap₂ later (ap₂ later (newest_stands events) (none_complete (part_among (map in_log (listing events (codes "_delta_log") [])))))
-          (ap (newest_by (λ (r : ℕ × List ℕ). Some r.0)) none_ratified)
+      (ap (newest_by (λ (r : ℕ × List ℕ). Some r.0)) none_ratified)
       ∙ later_same (later (greatest_below (stands events) (2 ^ 63)) None) ∙ later_same (greatest_below (stands events) (2 ^ 63))
 
 -- ---- the asked version
@@ -233,7 +231,7 @@ segment_at events version choice = segment_of (stands_at events) (standing event
 
 pub opened_is : (events : List Told) (log : List (List Action)) (limits : Limits) (at : Option ℕ) (choice : Choice) (version : ℕ) (now : ℤ) → choice.staged_first ≡ false → IsLog events log → IsPlain events → AreWithin limits.object events → AsksFor at log version
     → opened events limits at choice now
-      ≡ snapshot_with version (segment_at events version choice) (state_read (oldest_path (segment_at events version choice).steps) now (states.fold (take (version + 1) log)))
+    ≡ snapshot_with version (segment_at events version choice) (state_read (oldest_path (segment_at events version choice).steps) now (states.fold (take (version + 1) log)))
 opened_is events log limits at choice version now published is plain within asks =
     let below : version < length log = asked_below log version at asks in
     let some : 0 < length log = is.some in

@@ -1,6 +1,6 @@
 -- What is opened by a listing of events is opened by the events.
-use Rattle.std.proofs.Common.{◌≡◌, ℕ, ℤ, suc, zero, ◌+◌, ◌<◌, ◌^◌, List, [], ◌∷◌, reverse, refl, ap, ap₂, sym, subst, ◌∙◌, Bool, true, false, inl, inr}
-use Rattle.std.specs.Prelude.{All, Option, Some, None, Result, Ok, Err, IfSome, IfOk, option_and_then, ◌==◌, if◌then◌else◌}
+use Rattle.std.proofs.Common.{◌≡◌, ℕ, ℤ, suc, zero, ◌+◌, ◌<◌, ◌^◌, List, reverse, refl, ap, ap₂, sym, subst, ◌∙◌, Bool, true, false, inl, inr}
+use Rattle.std.specs.Prelude.{All, Option, Some, None, Result, Ok, Err, IfSome, IfOk, option_and_then, if◌then◌else◌}
 use Rattle.std.specs.Option.{option_or}
 use Rattle.std.specs.List.{AllByRecursion}
 use Rattle.std.proofs.lemmas.List.Elements.{All-from_recursion}

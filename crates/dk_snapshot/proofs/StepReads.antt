@@ -1,15 +1,15 @@
 -- Reading steps from the newest to the oldest, over a store that may tell its events.
-use Rattle.std.proofs.Common.{◌≡◌, ℕ, suc, List, [], ◌∷◌, ◌++◌, refl, ap, sym, subst, ◌∙◌, append_assoc, reverse, take, length, get_or, ◌+◌, ◌-◌, ◌<◌, arith}
+use Rattle.std.proofs.Common.{◌≡◌, ℕ, suc, List, [], ◌∷◌, ◌++◌, refl, ap, sym, subst, ◌∙◌, append_assoc, reverse, take, length, get_or, ◌-◌, ◌<◌, arith}
 use Rattle.std.proofs.lemmas.List.{reverse-append}
 use Rattle.std.proofs.Math.Seq.{take-suc}
-use Rattle.std.specs.Prelude.{All, Option, Some, None, Result, Ok, Err, IfSome}
+use Rattle.std.specs.Prelude.{Option, Some, None, Result, Ok, Err, IfSome}
 use Rattle.std.proofs.lemmas.List.Elements.{All-get_or}
 use Rattle.dk_store.specs.Told.{Told}
 use Rattle.dk_model.specs.declared.action.Action.{Action}
 use Rattle.dk_lawful.specs.declared.segment.Step.{Step}
 use Rattle.dk_engine.specs.declared.refusal.Refusal.{Refusal}
 use Rattle.dk_engine.specs.Answers.{Refuses, Gives}
-use Rattle.dk_engine.proofs.Refused.{refused_by_part, gives_same}
+use Rattle.dk_engine.proofs.Refused.{refused_by_part}
 use Rattle.dk_listing.specs.Sizes.{stored_size}
 use Rattle.dk_snapshot.specs.Log.{behind_older, newest_behind}
 use Rattle.dk_snapshot.specs.Steps.{AreSized, commit_in, commits_back, commits_of, step_path}
