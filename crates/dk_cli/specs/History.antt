@@ -4,7 +4,8 @@ use Rattle.dk_store.specs.Told.{Told}
 use Rattle.dk_store.specs.Stream.{more}
 use Rattle.dk_model.specs.declared.action.Action.{Action}
 use Rattle.dk_model.specs.State.{fold}
-use Rattle.dk_snapshot.specs.History.{IsLog, AsksFor}
+use Rattle.dk_engine.specs.declared.limits.Limits.{Limits}
+use Rattle.dk_snapshot.specs.History.{IsLog, IsPlain, AreWithin, AsksFor}
 use Rattle.dk_snapshot.specs.Support.{IsRead, cut_before}
 use Rattle.dk_cli.specs.Shown.{shown}
 use Rattle.dk_engine.specs.declared.refusal.Refusal.TheVariants as refusals
@@ -21,8 +22,9 @@ Shows text old (statuses.Refused refusal) new = ⊥
 Shows text old statuses.Usage new = ⊥
 Shows text old statuses.SourceFault new = ⊥
 
--- Over a log of commits, of which the asked version is one that is read, the answer shows the fold of the commits up to it.
-abbrev pub ShowsLog : List Told → Option ℕ → ℤ → Option (List ℕ) → Status → Option (List ℕ) → Type 0
-ShowsLog events at now old status new =
-    (log : List (List Action)) (version : ℕ) (kept : ℤ) → IsLog events log → AsksFor at log version → IsRead (fold (take (version + 1) log)) kept
+-- Over a log of commit files alone, none over the limit, of which the asked version is one that is read, the answer shows the fold of the
+-- commits up to it.
+abbrev pub ShowsLog : List Told → Limits → Option ℕ → ℤ → Option (List ℕ) → Status → Option (List ℕ) → Type 0
+ShowsLog events limits at now old status new =
+    (log : List (List Action)) (version : ℕ) (kept : ℤ) → IsLog events log → IsPlain events → AreWithin limits.object events → AsksFor at log version → IsRead (fold (take (version + 1) log)) kept
     → Shows (shown version (fold (take (version + 1) log)) (cut_before now kept)) old status new

@@ -39,7 +39,7 @@ fn show_command<O: Sink>(
     ensures store_later { store_faults (held engine.old.store) ≤ store_faults (held engine.new.store) }
     ensures sink_later { O.sink_faults out.old ≤ O.sink_faults out.new }
     ensures unwritten { IsUnwritten result (O.taken out.old) (O.taken out.new) }
-    ensures answer { IfSome (told (held engine.old.store)) (λ events. Answers (show events at now) (O.taken out.old) result (O.taken out.new)) }
+    ensures answer { IfSome (told (held engine.old.store)) (λ events. Answers (show events engine.old.limits at now) (O.taken out.old) result (O.taken out.new)) }
 {
     match show_text(alloc, engine, at, now) {
         Err(refusal) => Status::Refused(refusal),
@@ -56,8 +56,9 @@ fn show_command<O: Sink>(
 /// command may draw. By now the commands are `show`, `show --at V` and `commit`. The whole output is made first and given to
 /// the sink at the end; `commit` reads the input to its end, and its transaction has the id `base`.
 ///
-/// `whole_log` is the promise on `show` in the subject's own words: over a log of commits 0 to n whose version at hand is one
-/// that is read, the sink took exactly the text of that version as the fold of the commits up to it gives it. `show` says the
+/// `whole_log` is the promise on `show` in the subject's own words: over a log of commit files 0 to n, where nothing stands
+/// ratified, no checkpoint is listed and no commit is over the limit of objects, and whose version at hand is one that is
+/// read, the sink took exactly the text of that version as the fold of the commits up to it gives it. `show` says the
 /// same of every log, and with it exactly when each refusal comes. `commit` says which one event a commit adds, and exactly
 /// when each refusal comes. `lawful` is the promise on the log: whatever the command and its end, what was lawful stays so.
 /// `history` is the promise on `commit` in the subject's own words: with Done the history of a lawful log has exactly this
@@ -78,9 +79,9 @@ pub fn run<I: Source, O: Sink>(
     ensures store { result ≡ Status.Refused Refusal.Store → Rose (store_faults (held engine.old.store)) (store_faults (held engine.new.store)) }
     ensures taken { (path : List ℕ) → result ≡ Status.Refused (Refusal.Taken path) → Rose (clashes (held engine.old.store)) (clashes (held engine.new.store)) }
     ensures show { (at : Option ℕ) → AsksShow words.now at → IfSome (told (held engine.old.store))
-        (λ events. Answers (show events at now) (O.taken out.old) result (O.taken out.new)) }
+        (λ events. Answers (show events engine.old.limits at now) (O.taken out.old) result (O.taken out.new)) }
     ensures whole_log { (at : Option ℕ) → AsksShow words.now at → IfSome (told (held engine.old.store))
-        (λ events. ShowsLog events at now (O.taken out.old) result (O.taken out.new)) }
+        (λ events. ShowsLog events engine.old.limits at now (O.taken out.old) result (O.taken out.new)) }
     ensures commit { IsCommit words.now → IfSome (told (held engine.old.store)) (λ events. IfSome (I.left input.old) (λ left.
         CommitAnswers (actions_of engine.old.limits left) (λ actions. attempt events actions now base) events (O.taken out.old) result (O.taken out.new) (told (held engine.new.store)))) }
     ensures lawful { KeepsLawful (told (held engine.old.store)) (told (held engine.new.store)) }

@@ -3,12 +3,12 @@ ghost use Rattle.std.specs.Prelude.{◌≡◌, ◌≤◌, List, ℕ, Err, IfOk, 
 ghost use Rattle.dk_store.specs.Causes.{Rose};
 ghost use Rattle.dk_engine.specs.Answers.{Gives};
 ghost use Rattle.dk_engine.specs.Held.{held};
-ghost use Rattle.dk_snapshot.specs.Opened.{opened};
+ghost use Rattle.dk_snapshot.specs.Opening.{opened, usual_choice};
 ghost use Rattle.dk_cli.specs.Show.{show, text_of_snapshot};
 
 use crate::text::shown_text;
 use dk_engine::{Engine, Refusal};
-use dk_snapshot::{Snapshot, open_at};
+use dk_snapshot::{Snapshot, open_at, usual_choice};
 use std::alloc::{AllocError, Global};
 
 /// The text of a snapshot.
@@ -26,9 +26,19 @@ fn open(alloc: Global, engine: &mut Engine, at: Option<u64>, now: i64) -> Result
     ensures later { store_faults (held engine.old.store) ≤ store_faults (held engine.new.store) }
     ensures store { result ≡ Err Refusal.Store → Rose (store_faults (held engine.old.store)) (store_faults (held engine.new.store)) }
     ensures taken { (path : List ℕ) → result ≡ Err (Refusal.Taken path) → ⊥ }
-    ensures means { IfSome (told (held engine.old.store)) (λ events. Gives (λ snapshot. snapshot) result (opened events at now)) }
+    ensures means { IfSome (told (held engine.old.store)) (λ events. Gives (λ snapshot. snapshot) result (opened events engine.old.limits at usual_choice now)) }
 {
-    open_at(alloc, &mut *engine.store, &mut *engine.json, at, now)
+    let choice = usual_choice();
+    let limits = engine.limits;
+    open_at(
+        alloc,
+        &mut *engine.store,
+        &mut *engine.json,
+        limits,
+        at,
+        &choice,
+        now,
+    )
 }
 
 /// The whole output of `show` of a version.
@@ -44,7 +54,7 @@ pub(crate) fn show_text(
     ensures later { store_faults (held engine.old.store) ≤ store_faults (held engine.new.store) }
     ensures store { result ≡ Err Refusal.Store → Rose (store_faults (held engine.old.store)) (store_faults (held engine.new.store)) }
     ensures taken { (path : List ℕ) → result ≡ Err (Refusal.Taken path) → ⊥ }
-    ensures means { IfSome (told (held engine.old.store)) (λ events. Gives (λ text. text.items) result (show events at now)) }
+    ensures means { IfSome (told (held engine.old.store)) (λ events. Gives (λ text. text.items) result (show events engine.old.limits at now)) }
 {
     match open(alloc, engine, at, now) {
         Err(refusal) => Err(refusal),

@@ -1,8 +1,10 @@
-//! How much of the input is read, and what else has a limit.
+//! How much is read, and what else has a limit.
 
-/// How much of the input is read. Main takes the usual limits; a test may set smaller ones.
+/// How much is read. Main takes the usual limits; a test may set smaller ones.
 #[derive(Clone, Copy, Debug, PartialEq, Eq)]
 pub struct Limits {
+    /// The bytes of each object.
+    pub object: u64,
     /// The bytes of the input.
     pub input: u64,
     /// The bytes of a line of the input, without its newline.
@@ -34,11 +36,12 @@ impl Limits {
     ghost use Rattle.std.specs.Prelude.{◌≡◌};
     ghost use Rattle.dk_engine.specs.Usual.{usual};
 
-    /// The limits of the program: 256 MiB of input, 16 MiB a line, a million lines. Takes no memory.
+    /// The limits of the program: 256 MiB an object, 256 MiB of input, 16 MiB a line, a million lines. Takes no memory.
     pub fn usual() -> Limits
         ensures { result ≡ usual }
     {
         Limits {
+            object: 268_435_456,
             input: 268_435_456,
             line: 16_777_216,
             lines: 1_000_000,

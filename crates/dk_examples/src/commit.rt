@@ -103,6 +103,7 @@ const LIMITED: [Limited; 6] = [
     Limited {
         name: "an input of one byte too many",
         limits: Limits {
+            object: 9,
             input: 4,
             line: 9,
             lines: 9,
@@ -114,6 +115,7 @@ const LIMITED: [Limited; 6] = [
     Limited {
         name: "a line of one byte too many",
         limits: Limits {
+            object: 9,
             input: 9,
             line: 4,
             lines: 9,
@@ -125,6 +127,7 @@ const LIMITED: [Limited; 6] = [
     Limited {
         name: "a line too many, which has only begun",
         limits: Limits {
+            object: 9,
             input: 9,
             line: 9,
             lines: 2,
@@ -136,6 +139,7 @@ const LIMITED: [Limited; 6] = [
     Limited {
         name: "the limit that is passed first, though the whole passes another",
         limits: Limits {
+            object: 9,
             input: 7,
             line: 4,
             lines: 1,
@@ -147,6 +151,7 @@ const LIMITED: [Limited; 6] = [
     Limited {
         name: "of two limits that one byte passes, that on the input",
         limits: Limits {
+            object: 9,
             input: 4,
             line: 4,
             lines: 9,
@@ -158,6 +163,7 @@ const LIMITED: [Limited; 6] = [
     Limited {
         name: "an input that meets all limits passes none",
         limits: Limits {
+            object: 9,
             input: 5,
             line: 3,
             lines: 2,
@@ -174,6 +180,7 @@ fn within(limits: Limits) -> Limits
 {
     let usual = Limits::usual();
     Limits {
+        object: limits.object.min(usual.object),
         input: limits.input.min(usual.input),
         line: limits.line.min(usual.line),
         lines: limits.lines.min(usual.lines),

@@ -5,4 +5,6 @@
 #[cfg(test)]
 mod commit;
 #[cfg(test)]
+mod segments;
+#[cfg(test)]
 mod show;

@@ -1,3 +1,5 @@
 pub mod PartSets
 pub mod Small
 pub mod Standing
+pub mod LatestOf
+pub mod Sized

@@ -12,7 +12,7 @@ use Rattle.std.proofs.lemmas.Slice.Eq.{bytes_eq-Decides}
 use Rattle.dk_store.specs.Told.{Told, Listed, Stored}
 use Rattle.dk_store.specs.Listing.{listing, listed_as, path_in}
 use Rattle.dk_store.specs.Objects.{object, path_cmp}
-use Rattle.dk_store.specs.Standings.{standing, standings}
+use Rattle.dk_store.specs.Standings.{ratified_from, standing, standings}
 use Rattle.dk_store.proofs.Folders.{find-listing}
 use Rattle.dk_store.proofs.Lookups.{get-standings, same_version}
 use Rattle.dk_paths.specs.declared.log_name.LogName.{LogName}
@@ -31,18 +31,18 @@ use Rattle.dk_listing.specs.OfEvents.{IsListingOf, stands_at}
 
 -- ---- tests of lists
 
-any_map : {X Y : Type 0} (f : X → Y) (test : Y → Bool) (xs : List X) → list_any test (map f xs) ≡ list_any (λ x. test (f x)) xs
+pub any_map : {X Y : Type 0} (f : X → Y) (test : Y → Bool) (xs : List X) → list_any test (map f xs) ≡ list_any (λ x. test (f x)) xs
 any_map f test [] = refl
 any_map f test (x ∷ xs) = ap (λ (b : Bool). test (f x) || b) (any_map f test xs)
 
-any_same : {X : Type 0} (test other : X → Bool) → ((x : X) → test x ≡ other x) → (xs : List X) → list_any test xs ≡ list_any other xs
+pub any_same : {X : Type 0} (test other : X → Bool) → ((x : X) → test x ≡ other x) → (xs : List X) → list_any test xs ≡ list_any other xs
 any_same {X} test other same xs = let tests : test ≡ other = λ i x. same x i in ap (λ (t : X → Bool). list_any t xs) tests
 
-abbrev passes : {Y : Type 0} → (Y → Bool) → Option Y → Bool
+abbrev pub passes : {Y : Type 0} → (Y → Bool) → Option Y → Bool
 passes test None = false
 passes test (Some y) = test y
 
-any_filter_map : {X Y : Type 0} (f : X → Option Y) (test : Y → Bool) (xs : List X) → list_any test (filter_map f xs) ≡ list_any (λ x. passes test (f x)) xs
+pub any_filter_map : {X Y : Type 0} (f : X → Option Y) (test : Y → Bool) (xs : List X) → list_any test (filter_map f xs) ≡ list_any (λ x. passes test (f x)) xs
 any_filter_map f test [] = refl
 any_filter_map {X} {Y} f test (x ∷ xs) = by (f x) (any_filter_map f test xs)
   where
@@ -73,7 +73,7 @@ no_slash_in_digits zero number = refl
 no_slash_in_digits (suc count) number =
     rw (list_any-append is_slash (digits count (number / 10)) ((48 + number % 10) ∷ []), no_slash_in_digits count (number / 10), digit_is_no_slash number) refl
 
-no_slash_in_commit : (version : ℕ) → list_any is_slash (commit_name version) ≡ false
+pub no_slash_in_commit : (version : ℕ) → list_any is_slash (commit_name version) ≡ false
 no_slash_in_commit version = rw (list_any-append is_slash (digits 20 version) (codes ".json"), no_slash_in_digits 20 version) refl
 
 first_false : (a b c : Bool) → (not (a || b) && c) ≡ true → a ≡ false
@@ -86,7 +86,7 @@ no_slash_in_id id =
     first_false (list_any is_slash (id_text id)) (list_any is_slash (codes ".parquet")) (ends_in_parquet (sidecar_name id))
     (ap (λ (b : Bool). not b && ends_in_parquet (sidecar_name id)) (sym split) ∙ is_sidecar_name-sidecar_name id)
 
-no_slash_in_staged : (version id : ℕ) → list_any is_slash (staged_name version id) ≡ false
+pub no_slash_in_staged : (version id : ℕ) → list_any is_slash (staged_name version id) ≡ false
 no_slash_in_staged version id =
     list_any-append is_slash (digits 20 version) (codes "." ++ (id_text id ++ codes ".json"))
     ∙ ap₂ (λ (a b : Bool). a || b) (no_slash_in_digits 20 version) (list_any-append is_slash (id_text id) (codes ".json"))
@@ -99,7 +99,7 @@ is_some-map name None = refl
 is_some-map name (Some stored) = refl
 
 -- at no lower bound each name is listed
-not_below_empty : (name : List ℕ) → is_lt (path_cmp name []) ≡ false
+pub not_below_empty : (name : List ℕ) → is_lt (path_cmp name []) ≡ false
 not_below_empty [] = refl
 not_below_empty (b ∷ bs) = refl
 
@@ -133,18 +133,24 @@ is_commit version small text = same_from_decides _ _ (
 )
     (bytes_eq-Decides text (commit_name version))
 
+-- a commit is among the names of the log's folder exactly where it stands
+pub commit_listed : (events : List Told) (version : ℕ) → version < 2 ^ 63
+    → list_any (λ (entry : Listed). is_at (Commit_at version) (name_of entry.name)) (listing events (codes "_delta_log") []) ≡ stands_at events (Commit_at version)
+commit_listed events version small =
+    any_same (λ (entry : Listed). is_at (Commit_at version) (name_of entry.name)) (λ (entry : Listed). bytes_eq entry.name (commit_name version)) (λ entry. is_commit version small entry.name) (listing events (codes "_delta_log") [])
+    ∙ lists_name events (codes "_delta_log") (commit_name version) (no_slash_in_commit version)
+
 -- a commit is listed exactly where it stands
 pub lists_commit : (events : List Told) (found : Catalogued) → IsListingOf events found → (version : ℕ) → version < 2 ^ 63 → lists found (Commit_at version) ≡ stands_at events (Commit_at version)
 lists_commit events found is version small =
     sym (any_map named_entry (λ (e : LogName × Listed). is_at (Commit_at version) e.0) found.log.items)
     ∙ ap (list_any (λ (e : LogName × Listed). is_at (Commit_at version) e.0)) is.log
     ∙ any_map in_log (λ (e : LogName × Listed). is_at (Commit_at version) e.0) (listing events (codes "_delta_log") [])
-    ∙ any_same (λ (entry : Listed). is_at (Commit_at version) (name_of entry.name)) (λ (entry : Listed). bytes_eq entry.name (commit_name version)) (λ entry. is_commit version small entry.name) (listing events (codes "_delta_log") [])
-    ∙ lists_name events (codes "_delta_log") (commit_name version) (no_slash_in_commit version)
+    ∙ commit_listed events version small
 
 -- ---- staged commits
 
-abbrev is_staged_as : ℕ → ℕ → (ℕ × ℕ) × Listed → Bool
+abbrev pub is_staged_as : ℕ → ℕ → (ℕ × ℕ) × Listed → Bool
 is_staged_as version id e = e.0.0 == version && e.0.1 == id
 
 staged_read : (version id : ℕ) (entry : Listed) (found : Option (ℕ × ℕ)) → IsStagedNameOf entry.name found
@@ -158,7 +164,7 @@ staged_read version id entry (Some staged) names h =
     same_number m n h = elim (eqb_tells m n) [ inl t ↦ t.1 | inr f ↦ absurd (true≢false (sym h ∙ f.0)) ]
 
 -- a name means a staged commit exactly where it is its name
-is_staged : (version id : ℕ) → IsStaged version id → (entry : Listed) → passes (is_staged_as version id) (in_staged entry) ≡ bytes_eq entry.name (staged_name version id)
+pub is_staged : (version id : ℕ) → IsStaged version id → (entry : Listed) → passes (is_staged_as version id) (in_staged entry) ≡ bytes_eq entry.name (staged_name version id)
 is_staged version id allowed entry = same_from_decides _ _ (
   staged_read version id entry (staged_of entry.name) (IsStagedNameOf-staged_of entry.name),
   λ e. ap (λ (found : Option (ℕ × ℕ)). passes (is_staged_as version id) (option_map (λ staged. (staged, entry)) found)) (staged_of-spelled entry.name version id allowed (sym e))
@@ -189,10 +195,15 @@ name_found : (es : List (ℕ × List ℕ)) (version : ℕ) → name_at es versio
 name_found [] version = refl
 name_found (e ∷ es) version = ap₂ (λ (t : Bool) (o : Option (List ℕ)). cond t (Some e.1) o) (sym (same_version e.0 version)) (name_found es version)
 
--- a version's name is the one under which it stands ratified
-pub names_standing : (events : List Told) (found : Catalogued) → IsListingOf events found → (version : ℕ) → ratified_name found version ≡ standing events version
-names_standing events found is version =
-    ap (λ (es : List (ℕ × List ℕ)). name_at es version) (is.ratified ∙ all_kept (entries (standings events)))
+-- the name of a version among all ratifications is the one under which it stands ratified
+pub name_at_standing : (events : List Told) (version : ℕ) → name_at (ratified_from events 0) version ≡ standing events version
+name_at_standing events version =
+    ap (λ (es : List (ℕ × List ℕ)). name_at es version) (all_kept (entries (standings events)))
     ∙ name_found (entries (standings events)) version
     ∙ sym (get-entries (standings events) version)
     ∙ get-standings events version
+
+-- a version's name is the one under which it stands ratified
+pub names_standing : (events : List Told) (found : Catalogued) → IsListingOf events found → (version : ℕ) → ratified_name found version ≡ standing events version
+names_standing events found is version =
+    ap (λ (es : List (ℕ × List ℕ)). name_at es version) is.ratified ∙ name_at_standing events version

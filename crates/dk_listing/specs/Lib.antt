@@ -4,3 +4,4 @@ pub mod Newest
 pub mod OfEvents
 pub mod Parts
 pub mod Presence
+pub mod Sizes

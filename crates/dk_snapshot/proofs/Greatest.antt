@@ -23,7 +23,7 @@ has_head v w vs same = rw (eq-eqb v w same) refl
 has_tail : (v w : ℕ) (vs : List ℕ) → Has vs w → Has (v ∷ vs) w
 has_tail v w vs h = rw h (true_or (v == w))
 
-has_cases : (v w : ℕ) (vs : List ℕ) → Has (v ∷ vs) w → (v ≡ w) ⊎ Has vs w
+pub has_cases : (v w : ℕ) (vs : List ℕ) → Has (v ∷ vs) w → (v ≡ w) ⊎ Has vs w
 has_cases v w vs h = elim (eqb_tells v w) [ inl t ↦ inl t.1 | inr f ↦ inr (rw f.0 at h) ]
 
 first_of_max : (a b : ℕ) → (max a b ≡ a) ⊎ (max a b ≡ b)

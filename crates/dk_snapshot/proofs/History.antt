@@ -1,6 +1,6 @@
 -- Over a whole log, a version is the fold of the commits up to it.
 use Rattle.std.proofs.Common.{◌≡◌, ℕ, ℤ, suc, zero, ◌+◌, ◌-◌, ◌<◌, ◌≤◌, ◌^◌, List, [], length, take, get_or, refl, ap, ap₂, sym, ◌∙◌, Bool, true, false, not, true≢false, ◌++◌, codes, decimal, arith}
-use Rattle.std.specs.Prelude.{Option, Some, None, Result, Ok, Err, IfSome, option_and_then, option_map, is_some, nat_le, if◌then◌else◌}
+use Rattle.std.specs.Prelude.{Option, Some, None, Result, Ok, Err, option_and_then, option_map, is_some, nat_le, if◌then◌else◌}
 use Rattle.std.proofs.lemmas.Option.{slice_get-get_or}
 use Rattle.std.proofs.Math.Seq.{take-suc}
 use Rattle.std.proofs.lemmas.List.{length-take-le}
@@ -12,14 +12,13 @@ use Rattle.dk_model.specs.State.{fold}
 use Rattle.dk_model.specs.CommitText.{commit_of, reading_of}
 use Rattle.dk_model.specs.CommitText as texts
 use Rattle.dk_paths.specs.Names.{commit_path}
-use Rattle.dk_engine.specs.declared.refusal.Refusal.{Refusal}
 use Rattle.dk_engine.specs.declared.refusal.Refusal.TheVariants.{NoVersion}
 use Rattle.dk_model.specs.declared.state.TableState.{TableState}
 use Rattle.dk_snapshot.specs.Log.{commits_below, commits_planned, commit_of_object, commit_at, meant}
 use Rattle.dk_snapshot.specs.Opened.{snapshot_of, version_of, opened}
 use Rattle.dk_snapshot.specs.History.{IsLog, AsksFor}
 use Rattle.dk_snapshot.specs.Plan.{stands, greatest_below, plan, count_of, count_at, count_from}
-use Rattle.dk_snapshot.specs.Support.{IsRead, is_reader_known, retention, cut_before, cut_by, cut_unless, cut_with, cut_of}
+use Rattle.dk_snapshot.specs.Support.{IsRead, retention, cut_before, cut_by, cut_unless, cut_with, cut_of}
 use Rattle.dk_snapshot.proofs.Greatest.{greatest_below-is, first_failing-none}
 
 -- a commit that is read is there
@@ -41,7 +40,7 @@ meant_is : (path : List ℕ) (r : Result (List Action) ℕ) (x : List Action) �
 meant_is path (Ok actions) x h = let same : actions ≡ x = cc in ap Ok same
 meant_is path (Err line) x h = cc
 
-commit_of_object-is : (path : List ℕ) (c : Option (List ℕ)) (x : List Action) → option_and_then commit_of c ≡ Some x → commit_of_object path c ≡ Ok x
+pub commit_of_object-is : (path : List ℕ) (c : Option (List ℕ)) (x : List Action) → option_and_then commit_of c ≡ Some x → commit_of_object path c ≡ Ok x
 commit_of_object-is path None x h = cc
 commit_of_object-is path (Some bytes) x h = meant_is path (reading_of bytes) x h
 
@@ -63,7 +62,7 @@ counted_at test (Some asked) latest log version last (is, below) all =
     if_within (nat_le asked latest) (count_of test asked) (Err (NoVersion latest)) least ∙ ap (count_of test) (sym is) ∙ counted test version (λ w le. all w (omega arith))
 
 module _ (events : List Told) (log : List (List Action)) (is : IsLog events log) where
-  stands_in : (v : ℕ) → v < length log → stands events v ≡ true
+  pub stands_in : (v : ℕ) → v < length log → stands events v ≡ true
   stands_in v lt = some_content events (commit_path v) (get_or log v []) (is.each v lt ∙ slice_get-get_or log v [] lt)
 
   stands_above : (v : ℕ) → length log ≤ v → v < 2 ^ 63 → stands events v ≡ false
@@ -76,7 +75,7 @@ module _ (events : List Told) (log : List (List Action)) (is : IsLog events log)
       let here : commit_at events k ≡ Ok (get_or log k []) = commit_of_object-is (commit_path k) (content events (commit_path k)) (get_or log k []) (is.each k lt ∙ slice_get-get_or log k [] lt) in
       rw (here, log_commits k (omega arith), take-suc log k [] lt) refl
 
-  latest_of_log : greatest_below (stands events) (2 ^ 63) ≡ Some (length log - 1)
+  pub latest_of_log : greatest_below (stands events) (2 ^ 63) ≡ Some (length log - 1)
   latest_of_log =
       let some : 0 < length log = is.some in
       let small : length log ≤ 2 ^ 63 = is.small in
@@ -107,8 +106,8 @@ pub opened_is : (events : List Told) (log : List (List Action)) (at : Option ℕ
 opened_is events log at version now is asks = opened_of_log events log is at version asks now
 
 -- the cut of a state that passes the tests
-pub cut_is : (state : TableState) (kept now : ℤ) → IsRead state kept → cut_of state now ≡ Ok (cut_before now kept)
-cut_is state kept now read =
-    ap₂ (λ p m. cut_with p m state.files now) read.has_protocol read.has_metadata
+pub cut_is : (oldest : List ℕ) (state : TableState) (kept now : ℤ) → IsRead state kept → cut_of oldest state now ≡ Ok (cut_before now kept)
+cut_is oldest state kept now read =
+    ap₂ (λ p m. cut_with oldest p m state.files now) read.has_protocol read.has_metadata
     ∙ ap₂ (λ reader vectors. cut_unless (if not reader then Some (codes "minReaderVersion " ++ decimal read.protocol.min_reader) else if vectors then Some (codes "deletionVectors") else None) (retention read.metadata) now) read.reader read.vectors
     ∙ ap (λ kept. cut_by kept now) read.retention

@@ -5,3 +5,7 @@ pub mod NewestFirst
 pub mod Planned
 pub mod Surveyed
 pub mod History
+pub mod SizeMaps
+pub mod StepReads
+pub mod Segments
+pub mod PlainLog

@@ -1,10 +1,15 @@
 -- The log in plain words, apart from how it is read: each commit at its version, and none above them.
-use Rattle.std.specs.Prelude.{ℕ, ◌≡◌, ◌<◌, ◌≤◌, ◌^◌, ◌+◌, List, length, Option, Some, None, option_and_then, slice_get}
+use Rattle.std.specs.Prelude.{All, Bool, true, false, [], codes, IfSome, ℕ, ◌≡◌, ◌<◌, ◌≤◌, ◌^◌, ◌+◌, List, length, Option, Some, None, option_and_then, slice_get}
 use Rattle.dk_store.specs.Told.{Told}
+use Rattle.dk_store.specs.Listing.{listing}
 use Rattle.dk_store.specs.Objects.{content}
+use Rattle.dk_store.specs.Standings.{standing}
+use Rattle.dk_listing.specs.Sizes.{stored_size}
+use Rattle.dk_paths.specs.declared.log_name.LogName.{LogName}
+use Rattle.dk_paths.specs.declared.log_name.LogName.TheVariants.{Commit, Classic, Part, V2Json, V2Parquet, Compacted, Hint, Other}
 use Rattle.dk_model.specs.declared.action.Action.{Action}
 use Rattle.dk_model.specs.CommitText.{commit_of}
-use Rattle.dk_paths.specs.Names.{commit_path}
+use Rattle.dk_paths.specs.Names.{commit_path, name_of}
 
 -- These are the commits of the log: those of the versions 0 to n are all there and mean these lists of actions, and n is the greatest version.
 pub record IsLog (events : List Told) (log : List (List Action)) : Type 0 where
@@ -12,6 +17,26 @@ pub record IsLog (events : List Told) (log : List (List Action)) : Type 0 where
   pub small : length log ≤ 2 ^ 63
   pub each : (version : ℕ) → version < length log → option_and_then commit_of (content events (commit_path version)) ≡ slice_get log version
   pub last : (version : ℕ) → length log ≤ version → version < 2 ^ 63 → content events (commit_path version) ≡ None
+
+-- a name of a checkpoint's object
+abbrev pub is_checkpoint : LogName → Bool
+is_checkpoint (Commit version) = false
+is_checkpoint (Classic version) = true
+is_checkpoint (Part version part parts) = true
+is_checkpoint (V2Json version id) = true
+is_checkpoint (V2Parquet version id) = true
+is_checkpoint (Compacted first last) = false
+is_checkpoint Hint = false
+is_checkpoint Other = false
+
+-- a log of commit files alone: nothing stands ratified, and no checkpoint lies in its folder
+pub record IsPlain (events : List Told) : Type 0 where
+  pub none_ratified : (version : ℕ) → standing events version ≡ None
+  pub no_checkpoint : All (λ entry. is_checkpoint (name_of entry.name) ≡ false) (listing events (codes "_delta_log") [])
+
+-- no commit of the log is greater than the limit, in bytes
+abbrev pub AreWithin : ℕ → List Told → Type 0
+AreWithin limit events = (version : ℕ) → IfSome (stored_size events (commit_path version)) (λ size. size ≤ limit)
 
 -- the version that is asked of such a log: the latest one, or a given one that it has
 abbrev pub AsksFor : Option ℕ → List (List Action) → ℕ → Type 0

@@ -5,3 +5,8 @@ pub mod Opened
 pub mod Plan
 pub mod Versions
 pub mod History
+pub mod Asked
+pub mod Catalogue
+pub mod Sizes
+pub mod Steps
+pub mod Opening

@@ -7,7 +7,7 @@ use Rattle.dk_model.specs.State.{fold}
 use Rattle.dk_engine.specs.declared.refusal.Refusal.{Refusal}
 use Rattle.dk_snapshot.specs.declared.snapshot.Snapshot.{Snapshot}
 use Rattle.dk_snapshot.specs.Log.{commits_asked}
-use Rattle.dk_snapshot.specs.Support.{cut_of}
+use Rattle.dk_snapshot.specs.Support.{cut_of, first_commit}
 
 abbrev pub with_cut : ℕ → TableState → Result ℤ Refusal → Result Snapshot Refusal
 with_cut version state (Ok cut) = Ok (record { version = version; state = state; cut = cut })
@@ -15,7 +15,7 @@ with_cut version state (Err refusal) = Err refusal
 
 -- the version with this state, if it is one that is read
 abbrev pub snapshot_of : ℤ → ℕ → TableState → Result Snapshot Refusal
-snapshot_of now version state = with_cut version state (cut_of state now)
+snapshot_of now version state = with_cut version state (cut_of first_commit state now)
 
 -- the version that these commits make up
 abbrev pub version_of : ℤ → Result (List (List Action)) Refusal → Result Snapshot Refusal

@@ -11,7 +11,6 @@ use Rattle.dk_model.specs.declared.state.TableState.{TableState}
 use Rattle.dk_model.specs.Settings.{setting}
 use Rattle.dk_model.specs.Texts.{ByText}
 use Rattle.dk_paths.specs.Intervals.{interval_of}
-use Rattle.dk_paths.specs.Names.{commit_path}
 use Rattle.dk_engine.specs.declared.refusal.Refusal.{Refusal}
 use Rattle.dk_engine.specs.declared.refusal.Refusal.TheVariants.{Damaged, Unsupported}
 
@@ -59,14 +58,18 @@ abbrev pub cut_unless : Option (List ℕ) → Option ℤ → ℤ → Result ℤ 
 cut_unless (Some name) kept now = Err (Unsupported name)
 cut_unless None kept now = cut_by kept now
 
--- a log without protocol or metadata is damaged as a whole, from its first commit on
-abbrev pub cut_with : Option Protocol → Option Metadata → ByText AddFile → ℤ → Result ℤ Refusal
-cut_with (Some protocol) (Some metadata) files now = cut_unless (unread protocol files) (retention metadata) now
-cut_with protocol metadata files now = Err (Damaged (commit_path 0) 0)
+-- the path of the first commit
+abbrev pub first_commit : List ℕ
+first_commit = codes "_delta_log/00000000000000000000.json"
+
+-- a log without protocol or metadata is damaged as a whole, from its oldest object on, whose path this is
+abbrev pub cut_with : List ℕ → Option Protocol → Option Metadata → ByText AddFile → ℤ → Result ℤ Refusal
+cut_with oldest (Some protocol) (Some metadata) files now = cut_unless (unread protocol files) (retention metadata) now
+cut_with oldest protocol metadata files now = Err (Damaged oldest 0)
 
 -- the cut of a state at a moment, or why it isn't opened
-abbrev pub cut_of : TableState → ℤ → Result ℤ Refusal
-cut_of state now = cut_with state.protocol state.metadata state.files now
+abbrev pub cut_of : List ℕ → TableState → ℤ → Result ℤ Refusal
+cut_of oldest state now = cut_with oldest state.protocol state.metadata state.files now
 
 -- the state passes the tests, and its removed files are told for so long
 pub record IsRead (state : TableState) (kept : ℤ) : Type 0 where

@@ -1,13 +1,29 @@
-//! What a table is at a version, from the commits of its log.
+//! What a table is at a version: [`survey`] lists the log, [`open_listed`] and [`open_at`] choose the objects that the version
+//! is read from, read them from the newest to the oldest, and answer a [`Snapshot`].
 #![tactic(auto)]
 
+mod asked;
+mod catalogue;
 mod open;
+mod opening;
 mod reading;
+mod sizes;
 mod snapshot;
+mod steps;
 mod support;
+mod table;
+mod usual;
 mod versions;
 
-pub use open::{open_at, open_listed};
-pub use reading::survey;
-pub use snapshot::Snapshot;
-pub use versions::latest;
+pub use catalogue::survey;
+pub use opening::{open_at, open_listed};
+pub use table::Snapshot;
+pub use usual::usual_choice;
+
+/// Versions over commit files alone, whatever stands ratified.
+pub mod commits {
+    pub use crate::open::{open_at, open_listed};
+    pub use crate::reading::survey;
+    pub use crate::snapshot::Snapshot;
+    pub use crate::versions::latest;
+}

@@ -10,7 +10,7 @@ ghost use Rattle.dk_snapshot.specs.Versions.{greatest};
 
 use crate::reading::{read_below, survey};
 use crate::snapshot::Snapshot;
-use crate::support::cut_of;
+use crate::support::{FIRST_COMMIT, cut_of};
 use crate::versions::plan;
 use dk_engine::{JsonHandler, Refusal};
 use dk_model::{Commit, TableState};
@@ -18,7 +18,10 @@ use dk_store::Store;
 use std::alloc::{AllocError, Global};
 
 /// The state after these commits, of which the newest comes first. They are given up.
-fn fold_all(alloc: Global, mut newest_first: Vec<Commit>) -> Result<TableState, AllocError>
+pub(crate) fn fold_all(
+    alloc: Global,
+    mut newest_first: Vec<Commit>,
+) -> Result<TableState, AllocError>
     ensures { IfOk result (λ state. state ≡ fold (reverse newest_first.items)) }
 {
     let mut state = TableState::new(alloc);
@@ -64,7 +67,7 @@ fn snapshot_of(
     ensures store { result ≡ Err Refusal.Store → ⊥ }
     ensures taken { (path : List ℕ) → result ≡ Err (Refusal.Taken path) → ⊥ }
 {
-    match cut_of(alloc, &state, now) {
+    match cut_of(alloc, &state, FIRST_COMMIT, now) {
         Err(refusal) => Err(refusal),
         Ok(cut) => Ok(Snapshot {
             version,

@@ -1,15 +1,18 @@
 //! Which states are opened, and from which moment on their removed files are still told.
 ghost use Rattle.std.specs.Prelude.{◌≡◌, ◌≤ℤ◌, ℕ, pos, List, Err, Some, IfOk, IfSome};
 ghost use Rattle.dk_engine.specs.Answers.{Gives};
-ghost use Rattle.dk_snapshot.specs.Support.{cut_before, cut_of, cut_with, has_vectors, is_reader_known, retention, unread};
+ghost use Rattle.dk_snapshot.specs.Support.{cut_before, cut_of, cut_unless, has_vectors, is_reader_known, retention, unread};
 
 use dk_engine::Refusal;
 use dk_model::{AddFile, Metadata, Protocol, TableState, Text, TextMap};
-use dk_paths::{commit_path, read_interval};
+use dk_paths::read_interval;
 use std::alloc::{AllocError, Global};
 
 /// The setting of how long removed files are told.
 const RETENTION_KEY: &str = "delta.deletedFileRetentionDuration";
+
+/// The path of the first commit.
+pub(crate) const FIRST_COMMIT: &str = "_delta_log/00000000000000000000.json";
 
 /// How long removed files are told where it isn't set, in milliseconds: one week.
 const USUAL_RETENTION: i128 = 604_800_000;
@@ -78,7 +81,7 @@ fn cut_with(
     files: &TextMap<AddFile>,
     now: i64,
 ) -> Result<i64, Refusal>
-    ensures means { Gives (λ cut. cut) result (cut_with (Some protocol.now) (Some metadata.now) files.now now) }
+    ensures means { Gives (λ cut. cut) result (cut_unless (unread protocol.now files.now) (retention metadata.now) now) }
     ensures store { result ≡ Err Refusal.Store → ⊥ }
     ensures taken { (path : List ℕ) → result ≡ Err (Refusal.Taken path) → ⊥ }
 {
@@ -93,9 +96,15 @@ fn cut_with(
     }
 }
 
-/// The cut of a state at a moment, where the state is one that is opened.
-pub(crate) fn cut_of(alloc: Global, state: &TableState, now: i64) -> Result<i64, Refusal>
-    ensures means { Gives (λ cut. cut) result (cut_of state.now now) }
+/// The cut of a state at a moment, where the state is one that is opened. `oldest` is the path of the oldest object that
+/// it was read from.
+pub(crate) fn cut_of(
+    alloc: Global,
+    state: &TableState,
+    oldest: &str,
+    now: i64,
+) -> Result<i64, Refusal>
+    ensures means { Gives (λ cut. cut) result (cut_of oldest.now state.now now) }
     ensures store { result ≡ Err Refusal.Store → ⊥ }
     ensures taken { (path : List ℕ) → result ≡ Err (Refusal.Taken path) → ⊥ }
 {
@@ -104,7 +113,7 @@ pub(crate) fn cut_of(alloc: Global, state: &TableState, now: i64) -> Result<i64,
             cut_with(alloc, protocol, metadata, &state.files, now)
         }
         _ => Err(Refusal::Damaged {
-            path: Text::new(commit_path(alloc, 0)?),
+            path: Text::from_str(alloc, oldest)?,
             place: 0,
         }),
     }

@@ -19,7 +19,7 @@ use Rattle.dk_snapshot.specs.Plan.{stands, greatest_below, first_failing, count_
 use Rattle.dk_snapshot.specs.Log.{meant, commit_of_object, commit_at, newest_behind, commits_below, commits_planned}
 use Rattle.dk_snapshot.specs.Opened.{with_cut, snapshot_of, version_of}
 use Rattle.dk_snapshot.specs.Opened as opening
-use Rattle.dk_snapshot.specs.Support.{cut_of}
+use Rattle.dk_snapshot.specs.Support.{cut_of, first_commit}
 use Rattle.dk_lawful.specs.Managed.{is_managed, asks_for_catalogue}
 use Rattle.dk_lawful.specs.History.{history, commits_of, table}
 use Rattle.dk_lawful.specs.Laws.{IsWholeLog}
@@ -120,7 +120,7 @@ opened events now latest snapshot top is = by_plan (plan events None) refl is
     by_log : (count : ℕ) (log : Result (List (List Action)) Refusal) → latest + 1 ≡ count → commits_below events count ≡ log → version_of now log ≡ Ok snapshot → Opened events latest snapshot
     by_log count (Err refusal) counts below opens = cc
     by_log count (Ok log) counts below opens =
-        let parts = whole_is (length log - 1) (fold log) snapshot (cut_of (fold log) now) opens in
+        let parts = whole_is (length log - 1) (fold log) snapshot (cut_of first_commit (fold log) now) opens in
         let found : Reads events (latest + 1) log = subst (λ n. Reads events n log) (sym counts) (reads events count log below) in
         let long = found.long in
         record { log = log; reads = found; version = parts.0 ∙ (omega arith); state = parts.1 }

@@ -8,7 +8,7 @@ ghost use Rattle.dk_txn.specs.Attempt.{start};
 use dk_engine::{JsonHandler, Refusal, Which};
 use dk_model::TableState;
 use dk_paths::MAX_VERSION;
-use dk_snapshot::{Snapshot, latest, open_listed, survey};
+use dk_snapshot::commits::{Snapshot, latest, open_listed, survey};
 use dk_store::Store;
 use std::alloc::Global;
 

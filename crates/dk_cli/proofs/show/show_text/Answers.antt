@@ -5,4 +5,4 @@ use Rattle.dk_cli.proofs.Shown.{show_refused, show_opened}
 use Rattle.dk_cli.proofs.show.show_text.Goals as goal
 
 pub returns-in-Err-clause-means : goal.returns-in-Err-clause-means
-returns-in-Err-clause-means g c = show_refused _ _ c.args.now _ c.in-Err.refusal (to_z-of_z w64 c.args.now c.ranges.now) c.in-Err.ensures.means
+returns-in-Err-clause-means g c = show_refused _ c.args.engine.now.limits _ c.args.now _ c.in-Err.refusal (to_z-of_z w64 c.args.now c.ranges.now) c.in-Err.ensures.means

@@ -1,0 +1,246 @@
+-- Over a log of commits alone, where nothing stands ratified and no checkpoint is listed, a version is the fold of the commits up to it.
+use Rattle.std.proofs.Common.{◌≡◌, ℕ, ℤ, suc, zero, ◌+◌, ◌-◌, ◌<◌, ◌≤◌, ◌^◌, List, [], ◌∷◌, ◌++◌, length, take, get_or, map, refl, ap, ap₂, sym, subst, ◌∙◌, Bool, true, false, true≢false, arith, codes, inl, inr, eq-eqb}
+use Rattle.std.specs.Prelude.{Option, Some, None, Result, Ok, Err, IfSome, nat_le, nat_lt, ◌==◌, option_map, is_some, if◌then◌else◌}
+use Rattle.std.specs.Option.{option_or}
+use Rattle.std.specs.List.{AllByRecursion, fold, filter_map, cons_option}
+use Rattle.std.proofs.lemmas.Bool.{le-leb}
+use Rattle.std.proofs.lemmas.Bool.Decides.{nat_tests}
+use Rattle.std.proofs.Math.Seq.{take-suc}
+use Rattle.std.proofs.lemmas.List.Elements.{recursion_from_All}
+use Rattle.std.proofs.lemmas.Option.{slice_get-get_or}
+use Rattle.dk_store.specs.Told.{Told, Listed}
+use Rattle.dk_store.specs.Listing.{listing}
+use Rattle.dk_store.specs.Objects.{content}
+use Rattle.dk_store.specs.Standings.{standing, ratified_from}
+use Rattle.dk_paths.specs.declared.log_name.LogName.{LogName}
+use Rattle.dk_paths.specs.declared.log_name.LogName.TheVariants as names
+use Rattle.dk_paths.specs.Names.{commit_path, name_of}
+use Rattle.dk_paths.specs.Places.{Place, Commit_at}
+use Rattle.dk_paths.proofs.Meanings.{named_commit}
+use Rattle.dk_model.specs.declared.action.Action.{Action}
+use Rattle.dk_model.specs.State as states
+use Rattle.dk_lawful.specs.declared.segment.Choice.{Choice}
+use Rattle.dk_lawful.specs.declared.segment.Segment.{Segment}
+use Rattle.dk_lawful.specs.declared.segment.Step.{Step}
+use Rattle.dk_lawful.specs.declared.segment.Step.TheVariants as steps
+use Rattle.dk_lawful.specs.Segments.{staged_at, commit_place, before_later, steps_from, gap_from, segment_of}
+use Rattle.dk_engine.specs.declared.limits.Limits.{Limits}
+use Rattle.dk_engine.specs.declared.refusal.Refusal.{Refusal}
+use Rattle.dk_engine.specs.declared.refusal.Refusal.TheVariants.{NoVersion}
+use Rattle.dk_listing.specs.Entries.{in_log}
+use Rattle.dk_listing.specs.Latest.{part_among}
+use Rattle.dk_listing.specs.Newest.{later, newest_by, commit_version, complete_version}
+use Rattle.dk_listing.specs.OfEvents.{stands_at, latest}
+use Rattle.dk_listing.specs.Presence.{is_at, name_at}
+use Rattle.dk_listing.specs.Sizes.{stored_size}
+use Rattle.dk_listing.proofs.LatestOf.{newest_map}
+use Rattle.dk_listing.proofs.Standing.{any_filter_map, any_same, passes, commit_listed, name_at_standing}
+use Rattle.dk_segment.specs.Chosen.{chosen, unless_gap}
+use Rattle.dk_snapshot.specs.Asked.{version_asked, version_at}
+use Rattle.dk_snapshot.specs.History.{IsLog, AsksFor, IsPlain, is_checkpoint, AreWithin}
+use Rattle.dk_snapshot.specs.Log.{newest_behind, commit_of_object}
+use Rattle.dk_snapshot.specs.Opening.{state_of, state_read, snapshot_with, opened_chosen, opened_asked, opened}
+use Rattle.dk_snapshot.specs.Plan.{stands, greatest_below}
+use Rattle.dk_snapshot.specs.Steps.{commit_in, commits_of, fits, if_fits, oldest_path}
+use Rattle.dk_snapshot.specs.Versions.{greater, greatest_from}
+use Rattle.dk_snapshot.proofs.StepReads.{commits_last}
+use Rattle.dk_snapshot.proofs.Greatest.{Has, has_cases, greatest_below-list}
+use Rattle.dk_snapshot.proofs.History.{commit_of_object-is, latest_of_log, stands_in}
+
+-- ---- the latest version
+
+newest_none : {X : Type 0} (version : X → Option ℕ) (xs : List X) → AllByRecursion (λ x. version x ≡ None) xs → fold (λ best x. later best (version x)) None xs ≡ None
+newest_none version [] all = refl
+newest_none version (x ∷ xs) all = ap (λ (best : Option ℕ). fold (λ best x. later best (version x)) best xs) all.0 ∙ newest_none version xs all.1
+
+no_checkpoint : (has : ℕ → ℕ → ℕ → Bool) (name : LogName) → is_checkpoint name ≡ false → complete_version has name ≡ None
+no_checkpoint has (names.Commit v) plain = refl
+no_checkpoint has (names.Classic v) plain = absurd (true≢false plain)
+no_checkpoint has (names.Part v part parts) plain = absurd (true≢false plain)
+no_checkpoint has (names.V2Json v id) plain = absurd (true≢false plain)
+no_checkpoint has (names.V2Parquet v id) plain = absurd (true≢false plain)
+no_checkpoint has (names.Compacted first last) plain = refl
+no_checkpoint has names.Hint plain = refl
+no_checkpoint has names.Other plain = refl
+
+each_none : (has : ℕ → ℕ → ℕ → Bool) (es : List Listed) → AllByRecursion (λ (e : Listed). is_checkpoint (name_of e.name) ≡ false) es → AllByRecursion (λ (e : Listed). complete_version has (name_of e.name) ≡ None) es
+each_none has [] all = tt
+each_none has (e ∷ es) all = (no_checkpoint has (name_of e.name) all.0, each_none has es all.1)
+
+later_greater : (best : Option ℕ) (v : ℕ) → later best (Some v) ≡ greater best v
+later_greater None v = refl
+later_greater (Some b) v = refl
+
+later_same : (best : Option ℕ) → later best None ≡ best
+later_same None = refl
+later_same (Some b) = refl
+
+newest_greatest : {X : Type 0} (version : X → Option ℕ) (best : Option ℕ) (xs : List X) → fold (λ best x. later best (version x)) best xs ≡ greatest_from best (filter_map version xs)
+newest_greatest version best [] = refl
+newest_greatest {X} version best (x ∷ xs) = by (version x) (λ b. newest_greatest version b xs)
+  where
+    by : (o : Option ℕ) → ((b : Option ℕ) → fold (λ best x. later best (version x)) b xs ≡ greatest_from b (filter_map version xs))
+        → fold (λ best x. later best (version x)) (later best o) xs ≡ greatest_from best (cons_option o (filter_map version xs))
+    by None rest = ap (λ (b : Option ℕ). fold (λ best x. later best (version x)) b xs) (later_same best) ∙ rest best
+    by (Some v) rest = ap (λ (b : Option ℕ). fold (λ best x. later best (version x)) b xs) (later_greater best v) ∙ rest (greater best v)
+
+version_is : (w : ℕ) (name : LogName) → passes (λ (v : ℕ). v == w) (commit_version name) ≡ is_at (Commit_at w) name
+version_is w (names.Commit v) = refl
+version_is w (names.Classic v) = refl
+version_is w (names.Part v part parts) = refl
+version_is w (names.V2Json v id) = refl
+version_is w (names.V2Parquet v id) = refl
+version_is w (names.Compacted first last) = refl
+version_is w names.Hint = refl
+version_is w names.Other = refl
+
+version_small : (text : List ℕ) (name : LogName) (v : ℕ) → name_of text ≡ name → commit_version name ≡ Some v → v < 2 ^ 63
+version_small text (names.Commit w) v is found = let same : w ≡ v = cc in subst (λ (n : ℕ). n < 2 ^ 63) same (named_commit text w is).small
+version_small text (names.Classic w) v is found = cc
+version_small text (names.Part w part parts) v is found = cc
+version_small text (names.V2Json w id) v is found = cc
+version_small text (names.V2Parquet w id) v is found = cc
+version_small text (names.Compacted first last) v is found = cc
+version_small text names.Hint v is found = cc
+version_small text names.Other v is found = cc
+
+all_small : (es : List Listed) (w : ℕ) → Has (filter_map (λ (e : Listed). commit_version (name_of e.name)) es) w → w < 2 ^ 63
+all_small [] w has = cc
+all_small (e ∷ es) w has = by (commit_version (name_of e.name)) refl has (all_small es w)
+  where
+    by : (o : Option ℕ) → commit_version (name_of e.name) ≡ o → Has (cons_option o (filter_map (λ (x : Listed). commit_version (name_of x.name)) es)) w
+        → (Has (filter_map (λ (x : Listed). commit_version (name_of x.name)) es) w → w < 2 ^ 63) → w < 2 ^ 63
+    by None is there rest = rest there
+    by (Some v) is there rest = elim (has_cases v w (filter_map (λ (x : Listed). commit_version (name_of x.name)) es) there) [
+      | inl same ↦ subst (λ (n : ℕ). n < 2 ^ 63) same (version_small e.name (name_of e.name) v refl is)
+      | inr t ↦ rest t
+    ]
+
+-- the newest commit that is listed is the greatest version that stands
+pub newest_stands : (events : List Told) → newest_by (λ (e : LogName × Listed). commit_version e.0) (map in_log (listing events (codes "_delta_log") [])) ≡ greatest_below (stands events) (2 ^ 63)
+newest_stands events =
+    let es : List Listed = listing events (codes "_delta_log") [] in
+    let version : Listed → Option ℕ = λ (e : Listed). commit_version (name_of e.name) in
+    newest_map (λ (e : LogName × Listed). commit_version e.0) in_log es
+    ∙ newest_greatest version None es
+    ∙ sym (greatest_below-list (filter_map version es) (stands events) (2 ^ 63) (all_small es) (λ w less.
+    any_filter_map version (λ (v : ℕ). v == w) es
+    ∙ any_same (λ (e : Listed). passes (λ (v : ℕ). v == w) (version e)) (λ (e : Listed). is_at (Commit_at w) (name_of e.name)) (λ e. version_is w (name_of e.name)) es
+    ∙ commit_listed events w less))
+
+first_stands : (e : ℕ × List ℕ) (es : List (ℕ × List ℕ)) → name_at (e ∷ es) e.0 ≡ None → ⊥
+first_stands e es none = let there : name_at (e ∷ es) e.0 ≡ Some e.1 = rw (eq-eqb e.0 e.0 refl) refl in let no : ◌≡◌ {A = Option (List ℕ)} (Some e.1) None = sym there ∙ none in cc
+
+none_among : (es : List (ℕ × List ℕ)) → ((v : ℕ) → name_at es v ≡ None) → es ≡ []
+none_among [] none = refl
+none_among (e ∷ es) none = absurd (first_stands e es (none e.0))
+
+module _ (events : List Told) (plain : IsPlain events) where
+  none_ratified : ratified_from events 0 ≡ []
+  none_ratified = none_among (ratified_from events 0) (λ v. name_at_standing events v ∙ plain.none_ratified v)
+
+  none_complete : (has : ℕ → ℕ → ℕ → Bool) → newest_by (λ (e : LogName × Listed). complete_version has e.0) (map in_log (listing events (codes "_delta_log") [])) ≡ None
+  none_complete has =
+      let es : List Listed = listing events (codes "_delta_log") [] in
+      newest_map (λ (e : LogName × Listed). complete_version has e.0) in_log es
+      ∙ newest_none (λ (e : Listed). complete_version has (name_of e.name)) es
+      (each_none has es (recursion_from_All (λ (e : Listed). is_checkpoint (name_of e.name) ≡ false) es plain.no_checkpoint))
+
+  pub latest_plain : latest events ≡ greatest_below (stands events) (2 ^ 63)
+  latest_plain =
+      ap₂ later (ap₂ later (newest_stands events) (none_complete (part_among (map in_log (listing events (codes "_delta_log") [])))))
+      (ap (newest_by (λ (r : ℕ × List ℕ). Some r.0)) none_ratified)
+      ∙ later_same (later (greatest_below (stands events) (2 ^ 63)) None) ∙ later_same (greatest_below (stands events) (2 ^ 63))
+
+-- ---- the asked version
+
+if_within : {A : Type 0} (b : Bool) (x y : A) → b ≡ true → (if b then x else y) ≡ x
+if_within true x y is = refl
+if_within false x y is = absurd (true≢false (sym is))
+
+asked_below : (log : List (List Action)) (version : ℕ) (at : Option ℕ) → AsksFor at log version → version < length log
+asked_below log version None asks = omega arith
+asked_below log version (Some asked) asks = asks.1
+
+asked_log : (at : Option ℕ) (last : ℕ) (log : List (List Action)) (version : ℕ) → last + 1 ≡ length log → AsksFor at log version → version_at at last ≡ Ok version
+asked_log None last log version long asks = let same : last ≡ version = omega arith in ap Ok same
+asked_log (Some asked) last log version long (is, below) =
+    let least : nat_le asked last ≡ true = le-leb asked last (omega arith) in
+    if_within (nat_le asked last) (Ok asked) (Err (NoVersion last)) least ∙ ap Ok (sym is)
+
+-- ---- the segment and its commits
+
+gap_none : (place_at : ℕ → Option Place) (v count : ℕ) → ((w : ℕ) → w < v + count → is_some (place_at w) ≡ true) → gap_from place_at v count ≡ None
+unfolding gap_from
+gap_none place_at v zero all = refl
+gap_none place_at v (suc count) all = rw (all v (omega arith)) (gap_none place_at (suc v) count (λ w less. all w (omega arith)))
+
+abbrev step_of : ℕ → Step
+step_of version = steps.Commit version (commit_path version)
+
+steps_last : (place_at : ℕ → Option Place) (v count : ℕ) → ((w : ℕ) → w < v + suc count → place_at w ≡ Some (Commit_at w)) → steps_from place_at v (suc count) ≡ steps_from place_at v count ++ step_of (v + count) ∷ []
+unfolding steps_from
+steps_last place_at v zero all =
+    let here : v ≡ v + 0 = omega arith in
+    ap (λ (place : Option Place). before_later v place []) (all v (omega arith)) ∙ ap (λ (n : ℕ). step_of n ∷ []) here
+steps_last place_at v (suc count) all =
+    let here : place_at v ≡ Some (Commit_at v) = all v (omega arith) in
+    let next : suc v + count ≡ v + suc count = omega arith in
+    let rest : steps_from place_at (suc v) (suc count) ≡ steps_from place_at (suc v) count ++ step_of (suc v + count) ∷ [] = steps_last place_at (suc v) count (λ w less. all w (omega arith)) in
+    ap (λ (place : Option Place). before_later v place (steps_from place_at (suc v) (suc count))) here
+    ∙ ap (λ (later : List Step). step_of v ∷ later) (rest ∙ ap (λ (n : ℕ). steps_from place_at (suc v) count ++ step_of n ∷ []) next)
+    ∙ ap (λ (place : Option Place). before_later v place (steps_from place_at (suc v) count) ++ step_of (v + suc count) ∷ []) (sym here)
+
+steps_none : (place_at : ℕ → Option Place) (v : ℕ) → steps_from place_at v 0 ≡ []
+unfolding steps_from
+steps_none place_at v = refl
+
+fits_within : (limit : ℕ) (size : Option ℕ) → IfSome size (λ s. s ≤ limit) → fits limit size ≡ Ok tt
+fits_within limit None within = refl
+fits_within limit (Some s) within = let under : nat_lt limit s ≡ false = grind (arith, nat_tests, within) in rw under refl
+
+module _ (events : List Told) (log : List (List Action)) (is : IsLog events log) (limit : ℕ) (within : AreWithin limit events) where
+  abbrev at : ℕ → Option Place
+  at = commit_place (stands_at events) (standing events) false
+
+  place_stands : (v : ℕ) → v < length log → at v ≡ Some (Commit_at v)
+  place_stands v less = ap (λ (there : Bool). option_or (if there then Some (Commit_at v) else None) (staged_at (stands_at events) (standing events) v)) (stands_in events log is v less)
+
+  commit_reads : (v : ℕ) → v < length log → commit_in events limit (commit_path v) ≡ Ok (get_or log v [])
+  commit_reads v less =
+      ap (λ (fit : Result (Unit {0}) Refusal). if_fits fit (commit_of_object (commit_path v) (content events (commit_path v)))) (fits_within limit (stored_size events (commit_path v)) (within v))
+      ∙ commit_of_object-is (commit_path v) (content events (commit_path v)) (get_or log v []) (is.each v less ∙ slice_get-get_or log v [] less)
+
+  log_commits : (count : ℕ) → count ≤ length log → commits_of events limit (steps_from at 0 count) ≡ Ok (take count log)
+  log_commits zero most = ap (commits_of events limit) (steps_none at 0)
+  log_commits (suc count) most =
+      let less : count < length log = omega arith in
+      let same : 0 + count ≡ count = omega arith in
+      ap (commits_of events limit) (steps_last at 0 count (λ w under. place_stands w (omega arith)) ∙ ap (λ (n : ℕ). steps_from at 0 count ++ step_of n ∷ []) same)
+      ∙ commits_last events limit (steps_from at 0 count) (step_of count)
+      ∙ ap₂ newest_behind (commit_reads count less) (log_commits count (omega arith))
+      ∙ ap Ok (sym (take-suc log count [] less))
+
+  no_gap : (count : ℕ) → count ≤ length log → gap_from at 0 count ≡ None
+  no_gap count most = gap_none at 0 count (λ w less. ap (λ (place : Option Place). is_some place) (place_stands w (omega arith)))
+
+-- ---- a version of the log
+
+abbrev pub segment_at : List Told → ℕ → Choice → Segment
+segment_at events version choice = segment_of (stands_at events) (standing events) version choice
+
+pub opened_is : (events : List Told) (log : List (List Action)) (limits : Limits) (at : Option ℕ) (choice : Choice) (version : ℕ) (now : ℤ) → choice.staged_first ≡ false → IsLog events log → IsPlain events → AreWithin limits.object events → AsksFor at log version
+    → opened events limits at choice now
+    ≡ snapshot_with version (segment_at events version choice) (state_read (oldest_path (segment_at events version choice).steps) now (states.fold (take (version + 1) log)))
+opened_is events log limits at choice version now published is plain within asks =
+    let below : version < length log = asked_below log version at asks in
+    let some : 0 < length log = is.some in
+    let last : version_asked at (latest events) ≡ Ok version = ap (version_asked at) (latest_plain events plain ∙ latest_of_log events log is) ∙ asked_log at (length log - 1) log version (omega arith) asks in
+    let gap : gap_from (commit_place (stands_at events) (standing events) choice.staged_first) 0 (version + 1) ≡ None =
+    ap (λ (first : Bool). gap_from (commit_place (stands_at events) (standing events) first) 0 (version + 1)) published ∙ no_gap events log is limits.object within (version + 1) (omega arith) in
+    let chooses : chosen (stands_at events) (standing events) version choice ≡ Ok (segment_at events version choice) = ap (λ (g : Option ℕ). unless_gap (segment_at events version choice) (option_map commit_path g)) gap in
+    let commits : commits_of events limits.object (segment_at events version choice).steps ≡ Ok (take (version + 1) log) =
+    ap (λ (first : Bool). commits_of events limits.object (steps_from (commit_place (stands_at events) (standing events) first) 0 (version + 1))) published ∙ log_commits events log is limits.object within (version + 1) (omega arith) in
+    ap (opened_asked events limits choice now) last
+    ∙ ap (opened_chosen events limits now version) chooses
+    ∙ ap (λ (read : Result (List (List Action)) Refusal). snapshot_with version (segment_at events version choice) (state_of (oldest_path (segment_at events version choice).steps) now read)) commits

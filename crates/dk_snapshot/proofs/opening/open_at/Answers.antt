@@ -1,0 +1,13 @@
+use Rattle.std.proofs.lemmas.Int.{to_z-of_z}
+use mir.Syntax.{w64}
+use Rattle.dk_snapshot.specs.declared.table.Snapshot.{Snapshot}
+use Rattle.dk_snapshot.proofs.Segments.{survey_refused, survey_opened}
+use Rattle.dk_snapshot.proofs.opening.open_at.Goals as goal
+
+pub returns-in-Err-clause-means : goal.returns-in-Err-clause-means
+returns-in-Err-clause-means g c = survey_refused _ c.args.limits c.args.at c.args.choice.now c.args.now _ c.in-Err.ensures.found
+
+pub returns-in-Ok-clause-means : goal.returns-in-Ok-clause-means
+returns-in-Ok-clause-means g c =
+    survey_opened {X = Snapshot} (λ snapshot. snapshot) _ _ c.in-Ok.listing c.args.limits c.args.at c.args.choice.now c.args.now _ c.open_listed.result (to_z-of_z w64 c.args.now c.ranges.now)
+    c.in-Ok.ensures.same c.in-Ok.ensures.found c.open_listed.ensures.means

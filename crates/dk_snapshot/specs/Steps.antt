@@ -1,0 +1,48 @@
+-- What the objects of a segment mean, by the events of the store alone.
+use Rattle.std.specs.Prelude.{ℕ, ◌≡◌, All, List, [], ◌∷◌, Option, Some, None, Result, Ok, Err, nat_lt, reverse, if◌then◌else◌}
+use Rattle.dk_store.specs.Told.{Told}
+use Rattle.dk_store.specs.Objects.{content}
+use Rattle.dk_model.specs.declared.action.Action.{Action}
+use Rattle.dk_lawful.specs.declared.segment.Step.{Step}
+use Rattle.dk_lawful.specs.declared.segment.Step.TheVariants.{Commit, Compacted}
+use Rattle.dk_engine.specs.declared.limits.Which.TheVariants.{Object}
+use Rattle.dk_engine.specs.declared.refusal.Refusal.{Refusal}
+use Rattle.dk_engine.specs.declared.refusal.Refusal.TheVariants.{Limit}
+use Rattle.dk_listing.specs.Sizes.{stored_size}
+use Rattle.dk_snapshot.specs.Log.{commit_of_object, newest_behind}
+use Rattle.dk_snapshot.specs.Support.{first_commit}
+
+abbrev pub step_path : Step → List ℕ
+step_path (Commit version path) = path
+step_path (Compacted first last path) = path
+
+-- the path of the oldest object; no version is read from none
+abbrev pub oldest_path : List Step → List ℕ
+oldest_path [] = first_commit
+oldest_path (step ∷ steps) = step_path step
+
+-- an object over the limit isn't read
+abbrev pub fits : ℕ → Option ℕ → Result (Unit {0}) Refusal
+fits limit None = Ok tt
+fits limit (Some size) = if nat_lt limit size then Err (Limit Object size) else Ok tt
+
+abbrev pub if_fits : {X : Type 0} → Result (Unit {0}) Refusal → Result X Refusal → Result X Refusal
+if_fits (Ok u) meaning = meaning
+if_fits (Err refusal) meaning = Err refusal
+
+-- what the object at a path means as a commit: its size is tested first, then its presence
+abbrev pub commit_in : List Told → ℕ → List ℕ → Result (List Action) Refusal
+commit_in events limit path = if_fits (fits limit (stored_size events path)) (commit_of_object path (content events path))
+
+-- the commits of steps that stand newest first, oldest first; or the first refusal from the newest on
+abbrev pub commits_back : List Told → ℕ → List Step → Result (List (List Action)) Refusal
+commits_back events limit [] = Ok []
+commits_back events limit (step ∷ older) = newest_behind (commit_in events limit (step_path step)) (commits_back events limit older)
+
+-- the commits of steps that stand oldest first
+abbrev pub commits_of : List Told → ℕ → List Step → Result (List (List Action)) Refusal
+commits_of events limit steps = commits_back events limit (reverse steps)
+
+-- the sizes that are known of the steps are those of what stands
+abbrev pub AreSized : (List ℕ → Option ℕ) → List Told → List Step → Type 0
+AreSized size events steps = All (λ step. size (step_path step) ≡ stored_size events (step_path step)) steps

@@ -1,0 +1,175 @@
+//! A version of the table.
+ghost use Rattle.std.specs.Prelude.{◌≡◌, ◌≤◌, ◌<◌, ◌^◌, Err, IfOk, IfSome, List, None, Some, reverse, ℕ};
+ghost use Rattle.dk_store.specs.Causes.{Rose};
+ghost use Rattle.dk_model.specs.State.{fold};
+ghost use Rattle.dk_engine.specs.Answers.{Gives};
+ghost use Rattle.dk_listing.specs.Latest.{latest_of};
+ghost use Rattle.dk_listing.specs.OfEvents.{IsListingOf};
+ghost use Rattle.dk_listing.specs.Sizes.{listed_size};
+ghost use Rattle.dk_snapshot.specs.Opening.{opened, opened_version, read_of, snapshot_with, state_read};
+ghost use Rattle.dk_snapshot.specs.Steps.{AreSized};
+
+use crate::asked::asked_version;
+use crate::catalogue::survey;
+use crate::open::fold_all;
+use crate::steps::{oldest_path, read_listed};
+use crate::support::cut_of;
+use crate::table::Snapshot;
+use dk_engine::{JsonHandler, Limits, Refusal};
+use dk_lawful::{Choice, Segment};
+use dk_listing::Catalogued;
+use dk_model::{Commit, TableState};
+use dk_segment::choose;
+use dk_store::Store;
+use std::alloc::Global;
+
+/// The state that these commits make up, of which the newest comes first, and its cut. They are given up. `oldest` is the
+/// path of the oldest.
+fn state_of(
+    alloc: Global,
+    newest_first: Vec<Commit>,
+    oldest: &str,
+    now: i64,
+) -> Result<(TableState, i64), Refusal>
+    ensures means { Gives (λ read. read) result (state_read oldest.now now (fold (reverse newest_first.items))) }
+    ensures store { result ≡ Err Refusal.Store → ⊥ }
+    ensures taken { (path : List ℕ) → result ≡ Err (Refusal.Taken path) → ⊥ }
+{
+    let state = fold_all(alloc, newest_first)?;
+    match cut_of(alloc, &state, oldest, now) {
+        Err(refusal) => Err(refusal),
+        Ok(cut) => Ok((state, cut)),
+    }
+}
+
+/// The state that is read from a segment, and its cut.
+fn read_segment(
+    alloc: Global,
+    store: &mut dyn Store,
+    json: &mut dyn JsonHandler,
+    limits: Limits,
+    listing: &Catalogued,
+    segment: &Segment,
+    now: i64,
+) -> Result<(TableState, i64), Refusal>
+    ensures same { told store.new ≡ told store.old }
+    ensures clashes { clashes store.new ≡ clashes store.old }
+    ensures later { store_faults store.old ≤ store_faults store.new }
+    ensures store { result ≡ Err Refusal.Store → Rose (store_faults store.old) (store_faults store.new) }
+    ensures taken { (path : List ℕ) → result ≡ Err (Refusal.Taken path) → ⊥ }
+    ensures means { IfSome (told store.old) (λ events. AreSized (listed_size listing.now) events segment.now.steps → Gives (λ read. read) result (read_of events limits now segment.now)) }
+{
+    let steps = segment.steps.as_slice();
+    match read_listed(alloc, store, json, steps, listing, limits.object) {
+        Err(refusal) => Err(refusal),
+        Ok(newest_first) => state_of(alloc, newest_first, oldest_path(steps), now),
+    }
+}
+
+/// The snapshot of what was read from a segment.
+fn snapshot_with(
+    version: u64,
+    segment: Segment,
+    read: Result<(TableState, i64), Refusal>,
+) -> Result<Snapshot, Refusal>
+    ensures { result ≡ snapshot_with version segment read }
+{
+    match read {
+        Err(refusal) => Err(refusal),
+        Ok((state, cut)) => Ok(Snapshot {
+            version,
+            state,
+            cut,
+            segment,
+        }),
+    }
+}
+
+/// Opens a version.
+fn open_version(
+    alloc: Global,
+    store: &mut dyn Store,
+    json: &mut dyn JsonHandler,
+    limits: Limits,
+    listing: &Catalogued,
+    version: u64,
+    choice: &Choice,
+    now: i64,
+) -> Result<Snapshot, Refusal>
+    requires { version < 2 ^ 63 }
+    ensures same { told store.new ≡ told store.old }
+    ensures clashes { clashes store.new ≡ clashes store.old }
+    ensures later { store_faults store.old ≤ store_faults store.new }
+    ensures store { result ≡ Err Refusal.Store → Rose (store_faults store.old) (store_faults store.new) }
+    ensures taken { (path : List ℕ) → result ≡ Err (Refusal.Taken path) → ⊥ }
+    ensures means { IfSome (told store.old) (λ events. IsListingOf events listing.now → Gives (λ snapshot. snapshot) result (opened_version events limits choice.now now version)) }
+    ensures version { IfOk result (λ snapshot. snapshot.version ≡ version) }
+{
+    match choose(alloc, listing, version, choice) {
+        Err(refusal) => Err(refusal),
+        Ok(segment) => {
+            let read = read_segment(alloc, store, json, limits, listing, &segment, now);
+            snapshot_with(version, segment, read)
+        }
+    }
+}
+
+/// Opens the asked version, or the latest one, by the listing that a survey found. Refused as [`open_at`] is.
+pub fn open_listed(
+    alloc: Global,
+    store: &mut dyn Store,
+    json: &mut dyn JsonHandler,
+    limits: Limits,
+    listing: &Catalogued,
+    at: Option<u64>,
+    choice: &Choice,
+    now: i64,
+) -> Result<Snapshot, Refusal>
+    ensures same { told store.new ≡ told store.old }
+    ensures clashes { clashes store.new ≡ clashes store.old }
+    ensures later { store_faults store.old ≤ store_faults store.new }
+    ensures store { result ≡ Err Refusal.Store → Rose (store_faults store.old) (store_faults store.new) }
+    ensures taken { (path : List ℕ) → result ≡ Err (Refusal.Taken path) → ⊥ }
+    ensures means { IfSome (told store.old) (λ events. IsListingOf events listing.now → Gives (λ snapshot. snapshot) result (opened events limits at choice.now now)) }
+    ensures latest { at ≡ None → IfOk result (λ snapshot. Some snapshot.version ≡ latest_of listing.now) }
+    ensures small { IfOk result (λ snapshot. snapshot.version < 2 ^ 63) }
+{
+    match asked_version(alloc, listing.latest(), at) {
+        Err(refusal) => Err(refusal),
+        Ok(version) => open_version(alloc, store, json, limits, listing, version, choice, now),
+    }
+}
+
+/// Opens the asked version of the table, or the latest one, which is the greatest that is published, stands ratified or has a
+/// complete checkpoint (Delta Lake's PROTOCOL.md, "Delta Log Entries", "Catalog-managed tables"). It lists the log, its
+/// staged commits and the catalogue once each, and reads each of the version's commits once, from the newest to the
+/// oldest, and nothing after that version.
+///
+/// `now` is the moment of the call in milliseconds since 1970-01-01T00:00:00Z. Beside faults of the store and want of
+/// memory it is refused, in this order: `Missing` of version 0 where the log is empty, `NoVersion` where the asked version
+/// is above the latest, `Missing` of the first commit up to it that is absent, for the newest commit that can't be read
+/// `Limit` of `Object` where it is greater than `limits.object` bytes or else `Damaged` where it means nothing, `Damaged`
+/// of the oldest object, as a whole, where the table has no protocol or no metadata, and `Unsupported` of another reader
+/// version than 1 or 2, of deletion vectors, and of a retention of removed files that is no interval.
+pub fn open_at(
+    alloc: Global,
+    store: &mut dyn Store,
+    json: &mut dyn JsonHandler,
+    limits: Limits,
+    at: Option<u64>,
+    choice: &Choice,
+    now: i64,
+) -> Result<Snapshot, Refusal>
+    ensures same { told store.new ≡ told store.old }
+    ensures clashes { clashes store.new ≡ clashes store.old }
+    ensures later { store_faults store.old ≤ store_faults store.new }
+    ensures store { result ≡ Err Refusal.Store → Rose (store_faults store.old) (store_faults store.new) }
+    ensures taken { (path : List ℕ) → result ≡ Err (Refusal.Taken path) → ⊥ }
+    ensures means { IfSome (told store.old) (λ events. Gives (λ snapshot. snapshot) result (opened events limits at choice.now now)) }
+    ensures small { IfOk result (λ snapshot. snapshot.version < 2 ^ 63) }
+{
+    match survey(alloc, store) {
+        Err(refusal) => Err(refusal),
+        Ok(listing) => open_listed(alloc, store, json, limits, &listing, at, choice, now),
+    }
+}

@@ -1,0 +1,212 @@
+//! Reading the objects of a segment, from the newest to the oldest.
+ghost use Rattle.std.specs.Prelude.{◌≡◌, ◌≤◌, Err, IfOk, IfSome, List, ℕ, option_map, reverse, vec_len, IsErrOf};
+ghost use Rattle.dk_store.specs.Causes.{Rose};
+ghost use Rattle.dk_store.specs.Objects.{content};
+ghost use Rattle.dk_model.specs.CommitText.{reading_of};
+ghost use Rattle.dk_engine.specs.Answers.{Gives};
+ghost use Rattle.dk_listing.specs.Sizes.{listed_size, stored_size};
+ghost use Rattle.dk_snapshot.specs.Log.{commit_of_object, meant};
+ghost use Rattle.dk_snapshot.specs.Sizes.{known_size};
+ghost use Rattle.dk_snapshot.specs.Steps.{AreSized, commit_in, commits_of, fits, oldest_path, step_path};
+
+use crate::sizes::{Sizes, known_size, sizes_of};
+use crate::support::FIRST_COMMIT;
+use dk_engine::{JsonHandler, Refusal, Which};
+use dk_lawful::Step;
+use dk_listing::Catalogued;
+use dk_model::{Commit, LineFault, Text};
+use dk_store::{Store, StoreError};
+use std::alloc::Global;
+
+fn step_path(step: &Step) -> &str
+    ensures { result.now ≡ step_path step.now }
+{
+    match step {
+        Step::Commit { path, .. } => path.as_str(),
+        Step::Compacted { path, .. } => path.as_str(),
+    }
+}
+
+/// The path of the oldest object of a segment.
+pub(crate) fn oldest_path(steps: &[Step]) -> &str
+    ensures { result.now ≡ oldest_path steps.now }
+{
+    match steps.first() {
+        Some(step) => step_path(step),
+        None => FIRST_COMMIT,
+    }
+}
+
+/// An object over the limit isn't read.
+fn fits(limit: u64, size: Option<u64>) -> Result<(), Refusal>
+    ensures means { Gives (λ u. u) result (fits limit size) }
+    ensures store { result ≡ Err Refusal.Store → ⊥ }
+    ensures taken { (path : List ℕ) → result ≡ Err (Refusal.Taken path) → ⊥ }
+{
+    match size {
+        Some(size) if size > limit => Err(Refusal::Limit {
+            which: Which::Object,
+            value: size,
+        }),
+        _ => Ok(()),
+    }
+}
+
+/// What the bytes of a commit mean.
+fn read_bytes(
+    alloc: Global,
+    json: &mut dyn JsonHandler,
+    path: &str,
+    bytes: &[u8],
+) -> Result<Commit, Refusal>
+    ensures means { Gives (λ commit. commit) result (meant path.now (reading_of bytes.now)) }
+    ensures store { result ≡ Err Refusal.Store → ⊥ }
+    ensures taken { (path : List ℕ) → result ≡ Err (Refusal.Taken path) → ⊥ }
+{
+    match json.read_commit(alloc, bytes) {
+        Ok(commit) => Ok(commit),
+        Err(LineFault::Bad { line }) => Err(Refusal::Damaged {
+            path: Text::from_str(alloc, path)?,
+            place: line,
+        }),
+        Err(LineFault::OutOfMemory) => Err(Refusal::OutOfMemory),
+    }
+}
+
+/// What an object means as a commit, if it is there.
+fn read_object(
+    alloc: Global,
+    json: &mut dyn JsonHandler,
+    path: &str,
+    object: Option<Vec<u8>>,
+) -> Result<Commit, Refusal>
+    ensures means { Gives (λ commit. commit) result (commit_of_object path.now (option_map (λ bytes. bytes.items) object)) }
+    ensures store { result ≡ Err Refusal.Store → ⊥ }
+    ensures taken { (path : List ℕ) → result ≡ Err (Refusal.Taken path) → ⊥ }
+{
+    match object {
+        Some(bytes) => read_bytes(alloc, json, path, &bytes),
+        None => Err(Refusal::Missing {
+            path: Text::from_str(alloc, path)?,
+        }),
+    }
+}
+
+/// An object of the store.
+fn get_object(store: &mut dyn Store, path: &str) -> Result<Option<Vec<u8>>, StoreError>
+    ensures same { told store.new ≡ told store.old }
+    ensures clashes { clashes store.new ≡ clashes store.old }
+    ensures later { store_faults store.old ≤ store_faults store.new }
+    ensures failed { IsErrOf result StoreError.Failed → Rose (store_faults store.old) (store_faults store.new) }
+    ensures found { IfSome (told store.old) (λ events. IfOk result (λ object. option_map (λ bytes. bytes.items) object ≡ content events path.now)) }
+{
+    store.get(path)
+}
+
+/// Reads the commit at a path.
+fn read_commit(
+    alloc: Global,
+    store: &mut dyn Store,
+    json: &mut dyn JsonHandler,
+    path: &str,
+) -> Result<Commit, Refusal>
+    ensures same { told store.new ≡ told store.old }
+    ensures clashes { clashes store.new ≡ clashes store.old }
+    ensures later { store_faults store.old ≤ store_faults store.new }
+    ensures store { result ≡ Err Refusal.Store → Rose (store_faults store.old) (store_faults store.new) }
+    ensures taken { (path : List ℕ) → result ≡ Err (Refusal.Taken path) → ⊥ }
+    ensures means { IfSome (told store.old) (λ events. Gives (λ commit. commit) result (commit_of_object path.now (content events path.now))) }
+{
+    let object = get_object(store, path)?;
+    read_object(alloc, json, path, object)
+}
+
+/// Reads the commit at a path whose listed size is this, where that is within the limit.
+fn read_within(
+    alloc: Global,
+    store: &mut dyn Store,
+    json: &mut dyn JsonHandler,
+    path: &str,
+    size: Option<u64>,
+    limit: u64,
+) -> Result<Commit, Refusal>
+    ensures same { told store.new ≡ told store.old }
+    ensures clashes { clashes store.new ≡ clashes store.old }
+    ensures later { store_faults store.old ≤ store_faults store.new }
+    ensures store { result ≡ Err Refusal.Store → Rose (store_faults store.old) (store_faults store.new) }
+    ensures taken { (path : List ℕ) → result ≡ Err (Refusal.Taken path) → ⊥ }
+    ensures means { IfSome (told store.old) (λ events. size ≡ stored_size events path.now → Gives (λ commit. commit) result (commit_in events limit path.now)) }
+{
+    match fits(limit, size) {
+        Err(refusal) => Err(refusal),
+        Ok(()) => read_commit(alloc, store, json, path),
+    }
+}
+
+/// Reads the commit of a step.
+fn read_step<'a>(
+    alloc: Global,
+    store: &mut dyn Store,
+    json: &mut dyn JsonHandler,
+    step: &'a Step,
+    sizes: &Sizes<'a>,
+    limit: u64,
+) -> Result<Commit, Refusal>
+    ensures same { told store.new ≡ told store.old }
+    ensures clashes { clashes store.new ≡ clashes store.old }
+    ensures later { store_faults store.old ≤ store_faults store.new }
+    ensures store { result ≡ Err Refusal.Store → Rose (store_faults store.old) (store_faults store.new) }
+    ensures taken { (path : List ℕ) → result ≡ Err (Refusal.Taken path) → ⊥ }
+    ensures means { IfSome (told store.old) (λ events. known_size sizes.now (step_path step.now) ≡ stored_size events (step_path step.now) → Gives (λ commit. commit) result (commit_in events limit (step_path step.now))) }
+{
+    let path = step_path(step);
+    let size = known_size(sizes, path);
+    read_within(alloc, store, json, path, size, limit)
+}
+
+/// Reads the commits of these steps, from the newest to the oldest.
+fn read_steps<'a>(
+    alloc: Global,
+    store: &mut dyn Store,
+    json: &mut dyn JsonHandler,
+    steps: &'a [Step],
+    sizes: &Sizes<'a>,
+    limit: u64,
+) -> Result<Vec<Commit>, Refusal>
+    ensures same { told store.new ≡ told store.old }
+    ensures clashes { clashes store.new ≡ clashes store.old }
+    ensures later { store_faults store.old ≤ store_faults store.new }
+    ensures store { result ≡ Err Refusal.Store → Rose (store_faults store.old) (store_faults store.new) }
+    ensures taken { (path : List ℕ) → result ≡ Err (Refusal.Taken path) → ⊥ }
+    ensures means { IfSome (told store.old) (λ events. AreSized (known_size sizes.now) events steps.now → Gives (λ found. reverse found.items) result (commits_of events limit steps.now)) }
+{
+    let mut found = Vec::new(alloc);
+    for place in (0..steps.len()).rev() {
+        match read_step(alloc, store, json, &steps[place], sizes, limit) {
+            Ok(commit) => found.push(commit)?,
+            Err(refusal) => return Err(refusal),
+        }
+    }
+    Ok(found)
+}
+
+/// Reads the commits of these steps by the sizes that the listing shows, from the newest to the oldest. Each object is
+/// read once.
+pub(crate) fn read_listed<'a>(
+    alloc: Global,
+    store: &mut dyn Store,
+    json: &mut dyn JsonHandler,
+    steps: &'a [Step],
+    listing: &'a Catalogued,
+    limit: u64,
+) -> Result<Vec<Commit>, Refusal>
+    ensures same { told store.new ≡ told store.old }
+    ensures clashes { clashes store.new ≡ clashes store.old }
+    ensures later { store_faults store.old ≤ store_faults store.new }
+    ensures store { result ≡ Err Refusal.Store → Rose (store_faults store.old) (store_faults store.new) }
+    ensures taken { (path : List ℕ) → result ≡ Err (Refusal.Taken path) → ⊥ }
+    ensures means { IfSome (told store.old) (λ events. AreSized (listed_size listing.now) events steps.now → Gives (λ found. reverse found.items) result (commits_of events limit steps.now)) }
+{
+    let sizes = sizes_of(alloc, listing)?;
+    read_steps(alloc, store, json, steps, &sizes, limit)
+}
