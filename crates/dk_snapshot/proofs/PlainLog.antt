@@ -1,9 +1,9 @@
--- Over a log of commits alone, where nothing stands ratified and no checkpoint is listed, a version is the fold of the commits up to it.
+-- Over a log of commits, where no later version stands ratified and no checkpoint is of one, a version is the fold of the commits up to it.
 use Rattle.std.proofs.Common.{◌≡◌, ℕ, ℤ, suc, zero, ◌+◌, ◌-◌, ◌<◌, ◌≤◌, ◌^◌, List, [], ◌∷◌, ◌++◌, length, take, get_or, map, refl, ap, ap₂, sym, subst, ◌∙◌, Bool, true, false, true≢false, arith, codes, inl, inr, eq-eqb}
-use Rattle.std.specs.Prelude.{Option, Some, None, Result, Ok, Err, IfSome, nat_le, nat_lt, ◌==◌, option_map, is_some, if◌then◌else◌}
+use Rattle.std.specs.Prelude.{Option, Some, None, Result, Ok, Err, IfSome, nat_le, nat_lt, max, ◌==◌, ◌&&◌, option_map, is_some, if◌then◌else◌}
 use Rattle.std.specs.Option.{option_or}
 use Rattle.std.specs.List.{AllByRecursion, fold, filter_map, cons_option}
-use Rattle.std.proofs.lemmas.Bool.{le-leb}
+use Rattle.std.proofs.lemmas.Bool.{le-leb, cases_lt}
 use Rattle.std.proofs.lemmas.Bool.Decides.{nat_tests}
 use Rattle.std.proofs.Math.Seq.{take-suc}
 use Rattle.std.proofs.lemmas.List.Elements.{recursion_from_All}
@@ -29,7 +29,7 @@ use Rattle.dk_engine.specs.declared.refusal.Refusal.{Refusal}
 use Rattle.dk_engine.specs.declared.refusal.Refusal.TheVariants.{NoVersion}
 use Rattle.dk_listing.specs.Entries.{in_log}
 use Rattle.dk_listing.specs.Latest.{part_among}
-use Rattle.dk_listing.specs.Newest.{later, newest_by, commit_version, complete_version}
+use Rattle.dk_listing.specs.Newest.{later, newest_by, all_up_to, commit_version, complete_version}
 use Rattle.dk_listing.specs.OfEvents.{stands_at, latest}
 use Rattle.dk_listing.specs.Presence.{is_at, name_at}
 use Rattle.dk_listing.specs.Sizes.{stored_size}
@@ -37,7 +37,7 @@ use Rattle.dk_listing.proofs.LatestOf.{newest_map}
 use Rattle.dk_listing.proofs.Standing.{any_filter_map, any_same, passes, commit_listed, name_at_standing}
 use Rattle.dk_segment.specs.Chosen.{chosen, unless_gap}
 use Rattle.dk_snapshot.specs.Asked.{version_asked, version_at}
-use Rattle.dk_snapshot.specs.History.{IsLog, AsksFor, IsPlain, is_checkpoint, AreWithin}
+use Rattle.dk_snapshot.specs.History.{IsLog, AsksFor, IsBelow, EndsWith, checkpoint_version, AreWithin}
 use Rattle.dk_snapshot.specs.Log.{newest_behind, commit_of_object}
 use Rattle.dk_snapshot.specs.Opening.{state_of, state_read, snapshot_with, opened_chosen, opened_asked, opened}
 use Rattle.dk_snapshot.specs.Plan.{stands, greatest_below}
@@ -49,23 +49,38 @@ use Rattle.dk_snapshot.proofs.History.{commit_of_object-is, latest_of_log, stand
 
 -- ---- the latest version
 
-newest_none : {X : Type 0} (version : X → Option ℕ) (xs : List X) → AllByRecursion (λ x. version x ≡ None) xs → fold (λ best x. later best (version x)) None xs ≡ None
-newest_none version [] all = refl
-newest_none version (x ∷ xs) all = ap (λ (best : Option ℕ). fold (λ best x. later best (version x)) best xs) all.0 ∙ newest_none version xs all.1
+later_kept : (count : ℕ) (one other : Option ℕ) → IsBelow count one → IsBelow count other → IsBelow count (later one other)
+later_kept count None other a b = b
+later_kept count (Some x) None a b = a
+later_kept count (Some x) (Some y) a b = omega (arith, a, b)
 
-no_checkpoint : (has : ℕ → ℕ → ℕ → Bool) (name : LogName) → is_checkpoint name ≡ false → complete_version has name ≡ None
-no_checkpoint has (names.Commit v) plain = refl
-no_checkpoint has (names.Classic v) plain = absurd (true≢false plain)
-no_checkpoint has (names.Part v part parts) plain = absurd (true≢false plain)
-no_checkpoint has (names.V2Json v id) plain = absurd (true≢false plain)
-no_checkpoint has (names.V2Parquet v id) plain = absurd (true≢false plain)
-no_checkpoint has (names.Compacted first last) plain = refl
-no_checkpoint has names.Hint plain = refl
-no_checkpoint has names.Other plain = refl
+newest_below : {X : Type 0} (version : X → Option ℕ) (count : ℕ) (best : Option ℕ) (xs : List X) → IsBelow count best → AllByRecursion (λ x. IsBelow count (version x)) xs → IsBelow count (fold (λ best x. later best (version x)) best xs)
+newest_below version count best [] so_far all = so_far
+newest_below version count best (x ∷ xs) so_far all = newest_below version count (later best (version x)) xs (later_kept count best (version x) so_far all.0) all.1
 
-each_none : (has : ℕ → ℕ → ℕ → Bool) (es : List Listed) → AllByRecursion (λ (e : Listed). is_checkpoint (name_of e.name) ≡ false) es → AllByRecursion (λ (e : Listed). complete_version has (name_of e.name) ≡ None) es
-each_none has [] all = tt
-each_none has (e ∷ es) all = (no_checkpoint has (name_of e.name) all.0, each_none has es all.1)
+complete_below : (has : ℕ → ℕ → ℕ → Bool) (count : ℕ) (name : LogName) → IsBelow count (checkpoint_version name) → IsBelow count (complete_version has name)
+complete_below has count (names.Commit v) below = tt
+complete_below has count (names.Classic v) below = below
+complete_below has count (names.Part v part parts) below = by (part == 1 && all_up_to (has v parts) parts)
+  where
+    by : (all : Bool) → IsBelow count (if all then Some v else None)
+    by true = below
+    by false = tt
+complete_below has count (names.V2Json v id) below = below
+complete_below has count (names.V2Parquet v id) below = below
+complete_below has count (names.Compacted first last) below = tt
+complete_below has count names.Hint below = tt
+complete_below has count names.Other below = tt
+
+each_below : (has : ℕ → ℕ → ℕ → Bool) (count : ℕ) (es : List Listed) → AllByRecursion (λ (e : Listed). IsBelow count (checkpoint_version (name_of e.name))) es
+    → AllByRecursion (λ (e : Listed). IsBelow count (complete_version has (name_of e.name))) es
+each_below has count [] all = tt
+each_below has count (e ∷ es) all = (complete_below has count (name_of e.name) all.0, each_below has count es all.1)
+
+-- what isn't later changes no latest version
+later_last : (n : ℕ) (o : Option ℕ) → IsBelow (n + 1) o → later (Some n) o ≡ Some n
+later_last n None below = refl
+later_last n (Some v) below = let same : max n v ≡ n = omega (arith, below) in ap Some same
 
 later_greater : (best : Option ℕ) (v : ℕ) → later best (Some v) ≡ greater best v
 later_greater None v = refl
@@ -128,29 +143,44 @@ newest_stands events =
     ∙ any_same (λ (e : Listed). passes (λ (v : ℕ). v == w) (version e)) (λ (e : Listed). is_at (Commit_at w) (name_of e.name)) (λ e. version_is w (name_of e.name)) es
     ∙ commit_listed events w less))
 
-first_stands : (e : ℕ × List ℕ) (es : List (ℕ × List ℕ)) → name_at (e ∷ es) e.0 ≡ None → ⊥
-first_stands e es none = let there : name_at (e ∷ es) e.0 ≡ Some e.1 = rw (eq-eqb e.0 e.0 refl) refl in let no : ◌≡◌ {A = Option (List ℕ)} (Some e.1) None = sym there ∙ none in cc
+name_there : (e : ℕ × List ℕ) (es : List (ℕ × List ℕ)) → name_at (e ∷ es) e.0 ≡ Some e.1
+name_there e es = rw (eq-eqb e.0 e.0 refl) refl
 
-none_among : (es : List (ℕ × List ℕ)) → ((v : ℕ) → name_at es v ≡ None) → es ≡ []
-none_among [] none = refl
-none_among (e ∷ es) none = absurd (first_stands e es (none e.0))
+name_behind : (test : Bool) (name : List ℕ) (later : Option (List ℕ)) → (if test then Some name else later) ≡ None → later ≡ None
+name_behind true name later none = absurd (let no : ◌≡◌ {A = Option (List ℕ)} (Some name) None = none in cc)
+name_behind false name later none = none
 
-module _ (events : List Told) (plain : IsPlain events) where
-  none_ratified : ratified_from events 0 ≡ []
-  none_ratified = none_among (ratified_from events 0) (λ v. name_at_standing events v ∙ plain.none_ratified v)
+-- what is ratified is below, where nothing later stands ratified
+ratified_below : (count : ℕ) (es : List (ℕ × List ℕ)) → ((v : ℕ) → count ≤ v → name_at es v ≡ None) → AllByRecursion (λ (e : ℕ × List ℕ). IsBelow count (Some e.0)) es
+ratified_below count [] none = tt
+ratified_below count (e ∷ es) none = (
+  elim (cases_lt e.0 count) [
+    | inl less ↦ less
+    | inr past ↦ absurd (let no : ◌≡◌ {A = Option (List ℕ)} (Some e.1) None = sym (name_there e es) ∙ none e.0 past in cc)
+  ],
+  ratified_below count es (λ v past. name_behind (e.0 == v) e.1 (name_at es v) (none v past)),
+)
 
-  none_complete : (has : ℕ → ℕ → ℕ → Bool) → newest_by (λ (e : LogName × Listed). complete_version has e.0) (map in_log (listing events (codes "_delta_log") [])) ≡ None
-  none_complete has =
-      let es : List Listed = listing events (codes "_delta_log") [] in
-      newest_map (λ (e : LogName × Listed). complete_version has e.0) in_log es
-      ∙ newest_none (λ (e : Listed). complete_version has (name_of e.name)) es
-      (each_none has es (recursion_from_All (λ (e : Listed). is_checkpoint (name_of e.name) ≡ false) es plain.no_checkpoint))
-
-  pub latest_plain : latest events ≡ greatest_below (stands events) (2 ^ 63)
-  latest_plain =
-      ap₂ later (ap₂ later (newest_stands events) (none_complete (part_among (map in_log (listing events (codes "_delta_log") [])))))
-      (ap (newest_by (λ (r : ℕ × List ℕ). Some r.0)) none_ratified)
-      ∙ later_same (later (greatest_below (stands events) (2 ^ 63)) None) ∙ later_same (greatest_below (stands events) (2 ^ 63))
+-- the latest version of a log that ends with its commits
+pub latest_is : (events : List Told) (log : List (List Action)) → IsLog events log → EndsWith events (length log) → latest events ≡ Some (length log - 1)
+latest_is events log is ends =
+    let some : 0 < length log = is.some in
+    let back : length log ≡ (length log - 1) + 1 = omega arith in
+    let es : List Listed = listing events (codes "_delta_log") [] in
+    let has : ℕ → ℕ → ℕ → Bool = part_among (map in_log es) in
+    let checkpoints : IsBelow ((length log - 1) + 1) (newest_by (λ (e : LogName × Listed). complete_version has e.0) (map in_log es)) =
+    subst (λ (o : Option ℕ). IsBelow ((length log - 1) + 1) o) (sym (newest_map (λ (e : LogName × Listed). complete_version has e.0) in_log es))
+    (subst (λ (n : ℕ). IsBelow n (newest_by (λ (e : Listed). complete_version has (name_of e.name)) es)) back
+    (newest_below (λ (e : Listed). complete_version has (name_of e.name)) (length log) None es tt
+    (each_below has (length log) es (recursion_from_All (λ (e : Listed). IsBelow (length log) (checkpoint_version (name_of e.name))) es ends.checkpoints)))) in
+    let ratified : IsBelow ((length log - 1) + 1) (newest_by (λ (r : ℕ × List ℕ). Some r.0) (ratified_from events 0)) =
+    subst (λ (n : ℕ). IsBelow n (newest_by (λ (r : ℕ × List ℕ). Some r.0) (ratified_from events 0))) back
+    (newest_below (λ (r : ℕ × List ℕ). Some r.0) (length log) None (ratified_from events 0) tt
+    (ratified_below (length log) (ratified_from events 0) (λ v past. name_at_standing events v ∙ ends.ratified v past))) in
+    let newest : newest_by (λ (e : LogName × Listed). commit_version e.0) (map in_log es) ≡ Some (length log - 1) = newest_stands events ∙ latest_of_log events log is in
+    ap (λ (o : Option ℕ). later (later o (newest_by (λ (e : LogName × Listed). complete_version has e.0) (map in_log es))) (newest_by (λ (r : ℕ × List ℕ). Some r.0) (ratified_from events 0))) newest
+    ∙ ap (λ (o : Option ℕ). later o (newest_by (λ (r : ℕ × List ℕ). Some r.0) (ratified_from events 0))) (later_last (length log - 1) _ checkpoints)
+    ∙ later_last (length log - 1) _ ratified
 
 -- ---- the asked version
 
@@ -229,13 +259,13 @@ module _ (events : List Told) (log : List (List Action)) (is : IsLog events log)
 abbrev pub segment_at : List Told → ℕ → Choice → Segment
 segment_at events version choice = segment_of (stands_at events) (standing events) version choice
 
-pub opened_is : (events : List Told) (log : List (List Action)) (limits : Limits) (at : Option ℕ) (choice : Choice) (version : ℕ) (now : ℤ) → choice.staged_first ≡ false → IsLog events log → IsPlain events → AreWithin limits.object events → AsksFor at log version
+pub opened_is : (events : List Told) (log : List (List Action)) (limits : Limits) (at : Option ℕ) (choice : Choice) (version : ℕ) (now : ℤ) → choice.staged_first ≡ false → IsLog events log → EndsWith events (length log) → AreWithin limits.object events → AsksFor at log version
     → opened events limits at choice now
     ≡ snapshot_with version (segment_at events version choice) (state_read (oldest_path (segment_at events version choice).steps) now (states.fold (take (version + 1) log)))
-opened_is events log limits at choice version now published is plain within asks =
+opened_is events log limits at choice version now published is ends within asks =
     let below : version < length log = asked_below log version at asks in
     let some : 0 < length log = is.some in
-    let last : version_asked at (latest events) ≡ Ok version = ap (version_asked at) (latest_plain events plain ∙ latest_of_log events log is) ∙ asked_log at (length log - 1) log version (omega arith) asks in
+    let last : version_asked at (latest events) ≡ Ok version = ap (version_asked at) (latest_is events log is ends) ∙ asked_log at (length log - 1) log version (omega arith) asks in
     let gap : gap_from (commit_place (stands_at events) (standing events) choice.staged_first) 0 (version + 1) ≡ None =
     ap (λ (first : Bool). gap_from (commit_place (stands_at events) (standing events) first) 0 (version + 1)) published ∙ no_gap events log is limits.object within (version + 1) (omega arith) in
     let chooses : chosen (stands_at events) (standing events) version choice ≡ Ok (segment_at events version choice) = ap (λ (g : Option ℕ). unless_gap (segment_at events version choice) (option_map commit_path g)) gap in

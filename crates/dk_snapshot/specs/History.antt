@@ -18,21 +18,24 @@ pub record IsLog (events : List Told) (log : List (List Action)) : Type 0 where
   pub each : (version : ℕ) → version < length log → option_and_then commit_of (content events (commit_path version)) ≡ slice_get log version
   pub last : (version : ℕ) → length log ≤ version → version < 2 ^ 63 → content events (commit_path version) ≡ None
 
--- a name of a checkpoint's object
-abbrev pub is_checkpoint : LogName → Bool
-is_checkpoint (Commit version) = false
-is_checkpoint (Classic version) = true
-is_checkpoint (Part version part parts) = true
-is_checkpoint (V2Json version id) = true
-is_checkpoint (V2Parquet version id) = true
-is_checkpoint (Compacted first last) = false
-is_checkpoint Hint = false
-is_checkpoint Other = false
+-- the version of a checkpoint's object, by its name
+abbrev pub checkpoint_version : LogName → Option ℕ
+checkpoint_version (Commit version) = None
+checkpoint_version (Classic version) = Some version
+checkpoint_version (Part version part parts) = Some version
+checkpoint_version (V2Json version id) = Some version
+checkpoint_version (V2Parquet version id) = Some version
+checkpoint_version (Compacted first last) = None
+checkpoint_version Hint = None
+checkpoint_version Other = None
 
--- a log of commit files alone: nothing stands ratified, and no checkpoint lies in its folder
-pub record IsPlain (events : List Told) : Type 0 where
-  pub none_ratified : (version : ℕ) → standing events version ≡ None
-  pub no_checkpoint : All (λ entry. is_checkpoint (name_of entry.name) ≡ false) (listing events (codes "_delta_log") [])
+abbrev pub IsBelow : ℕ → Option ℕ → Type 0
+IsBelow count version = IfSome version (λ v. v < count)
+
+-- The log ends with its commits, of which there are so many: no later version stands ratified, and no checkpoint in the folder is of one.
+pub record EndsWith (events : List Told) (count : ℕ) : Type 0 where
+  pub ratified : (version : ℕ) → count ≤ version → standing events version ≡ None
+  pub checkpoints : All (λ entry. IsBelow count (checkpoint_version (name_of entry.name))) (listing events (codes "_delta_log") [])
 
 -- no commit of the log is greater than the limit, in bytes
 abbrev pub AreWithin : ℕ → List Told → Type 0
