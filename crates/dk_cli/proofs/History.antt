@@ -1,5 +1,5 @@
 -- Over a whole log, what `show` gives is the text of the fold.
-use Rattle.std.proofs.Common.{◌≡◌, ℕ, ℤ, ◌+◌, List, take, refl, ap, sym, ◌∙◌}
+use Rattle.std.proofs.Common.{◌≡◌, ℕ, ℤ, ◌+◌, List, length, take, refl, ap, sym, ◌∙◌}
 use Rattle.std.specs.Prelude.{Option, Some, None, Result, Ok, IfSome}
 use Rattle.dk_store.specs.Told.{Told}
 use Rattle.dk_model.specs.declared.action.Action.{Action}
@@ -7,7 +7,7 @@ use Rattle.dk_model.specs.State.{fold}
 use Rattle.dk_engine.specs.declared.refusal.Refusal.{Refusal}
 use Rattle.dk_engine.specs.declared.refusal.Refusal.TheVariants as refusals
 use Rattle.dk_engine.specs.declared.limits.Limits.{Limits}
-use Rattle.dk_snapshot.specs.History.{IsLog, IsPlain, AreWithin, AsksFor}
+use Rattle.dk_snapshot.specs.History.{IsLog, EndsWith, AreWithin, AsksFor}
 use Rattle.dk_snapshot.specs.Support.{IsRead, cut_before}
 use Rattle.dk_snapshot.specs.Opening.{snapshot_with, with_cut, usual_choice}
 use Rattle.dk_snapshot.specs.Steps.{oldest_path}
@@ -31,10 +31,10 @@ answers_shows told text old new statuses.Usage e h = h
 answers_shows told text old new statuses.SourceFault e h = h
 
 -- the text of a version of a log, where it is one that is read
-show_log : (events : List Told) (limits : Limits) (at : Option ℕ) (now : ℤ) (log : List (List Action)) (version : ℕ) (kept : ℤ) → IsLog events log → IsPlain events → AreWithin limits.object events → AsksFor at log version → IsRead (fold (take (version + 1) log)) kept
+show_log : (events : List Told) (limits : Limits) (at : Option ℕ) (now : ℤ) (log : List (List Action)) (version : ℕ) (kept : ℤ) → IsLog events log → EndsWith events (length log) → AreWithin limits.object events → AsksFor at log version → IsRead (fold (take (version + 1) log)) kept
     → show events limits at now ≡ Ok (shown version (fold (take (version + 1) log)) (cut_before now kept))
-show_log events limits at now log version kept is plain within asks read =
-    ap text_of_opened (opened_is events log limits at usual_choice version now refl is plain within asks)
+show_log events limits at now log version kept is ends within asks read =
+    ap text_of_opened (opened_is events log limits at usual_choice version now refl is ends within asks)
     ∙ ap (λ cut. text_of_opened (snapshot_with version (segment_at events version usual_choice) (with_cut (fold (take (version + 1) log)) cut)))
     (cut_is (oldest_path (segment_at events version usual_choice).steps) (fold (take (version + 1) log)) kept now read)
 
@@ -42,8 +42,8 @@ show_log events limits at now log version kept is plain within asks read =
 pub whole_log : (told : Option (List Told)) (limits : Limits) (asked : Option (Option ℕ)) (given at : Option ℕ) (now passed : ℤ) (old new : Option (List ℕ)) (status : Status) → asked ≡ Some given → asked ≡ Some at → passed ≡ now
     → IfSome told (λ events. Answers (show events limits given passed) old status new) → IfSome told (λ events. ShowsLog events limits at now old status new)
 whole_log None limits asked given at now passed old new status one other same h = tt
-whole_log (Some events) limits asked given at now passed old new status one other same h = λ log version kept is plain within asks read.
+whole_log (Some events) limits asked given at now passed old new status one other same h = λ log version kept is ends within asks read.
     let alike : ◌≡◌ {A = Option (Option ℕ)} (Some given) (Some at) = sym one ∙ other in
     let version_asked : given ≡ at = cc in
     answers_shows (show events limits given passed) (shown version (fold (take (version + 1) log)) (cut_before now kept)) old new status
-    (ap (show events limits given) same ∙ ap (λ a. show events limits a now) version_asked ∙ show_log events limits at now log version kept is plain within asks read) h
+    (ap (show events limits given) same ∙ ap (λ a. show events limits a now) version_asked ∙ show_log events limits at now log version kept is ends within asks read) h

@@ -1,11 +1,11 @@
 -- What the promise on `show` wants of an answer.
-use Rattle.std.specs.Prelude.{ℕ, ℤ, ◌≡◌, ◌+◌, List, Option, take}
+use Rattle.std.specs.Prelude.{ℕ, ℤ, ◌≡◌, ◌+◌, List, Option, length, take}
 use Rattle.dk_store.specs.Told.{Told}
 use Rattle.dk_store.specs.Stream.{more}
 use Rattle.dk_model.specs.declared.action.Action.{Action}
 use Rattle.dk_model.specs.State.{fold}
 use Rattle.dk_engine.specs.declared.limits.Limits.{Limits}
-use Rattle.dk_snapshot.specs.History.{IsLog, IsPlain, AreWithin, AsksFor}
+use Rattle.dk_snapshot.specs.History.{IsLog, EndsWith, AreWithin, AsksFor}
 use Rattle.dk_snapshot.specs.Support.{IsRead, cut_before}
 use Rattle.dk_cli.specs.Shown.{shown}
 use Rattle.dk_engine.specs.declared.refusal.Refusal.TheVariants as refusals
@@ -26,5 +26,5 @@ Shows text old statuses.SourceFault new = ⊥
 -- commits up to it.
 abbrev pub ShowsLog : List Told → Limits → Option ℕ → ℤ → Option (List ℕ) → Status → Option (List ℕ) → Type 0
 ShowsLog events limits at now old status new =
-    (log : List (List Action)) (version : ℕ) (kept : ℤ) → IsLog events log → IsPlain events → AreWithin limits.object events → AsksFor at log version → IsRead (fold (take (version + 1) log)) kept
+    (log : List (List Action)) (version : ℕ) (kept : ℤ) → IsLog events log → EndsWith events (length log) → AreWithin limits.object events → AsksFor at log version → IsRead (fold (take (version + 1) log)) kept
     → Shows (shown version (fold (take (version + 1) log)) (cut_before now kept)) old status new
