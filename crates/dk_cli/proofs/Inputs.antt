@@ -1,18 +1,12 @@
 -- One more piece of the input, over what a source may tell.
-use Rattle.std.proofs.Common.{◌≡◌, ℕ, ◌≤◌, List, ◌++◌, length, take, Option, Some, None, refl, ap, sym, subst, ◌∙◌, append_assoc, arith}
-use Rattle.std.specs.Prelude.{IfSome, Err}
+use Rattle.std.proofs.Common.{◌≡◌, ℕ, ◌≤◌, List, ◌++◌, length, take, Option, Some, None, refl, ap, sym, ◌∙◌, append_assoc}
+use Rattle.std.specs.Prelude.{IfSome}
 use Rattle.std.proofs.lemmas.List.{take-append-le}
 use Rattle.dk_store.specs.Stream.{before}
 use Rattle.dk_engine.specs.declared.limits.Limits.{Limits}
 use Rattle.dk_engine.specs.declared.limits.Which.{Which}
-use Rattle.dk_cli.specs.declared.scan.Scan.{Scan}
 use Rattle.dk_cli.specs.Input.{first_passed_from, first_passed}
-use Rattle.dk_cli.specs.Seen.{HasSeen}
-use Rattle.dk_cli.specs.declared.input.Unread.{Unread}
-use Rattle.dk_cli.specs.declared.status.Status.{Status}
-use Rattle.dk_cli.specs.Actions.{actions_of, TakesActions}
-use Rattle.dk_cli.specs.Reading.{StopsReading}
-use Rattle.dk_cli.proofs.Scans.{none_behind, limit_behind}
+use Rattle.dk_cli.proofs.Scans.{limit_behind}
 
 -- what was left at first, by what is left after one more piece
 one_more_piece : (bytes piece : List ℕ) (initial old now : Option (List ℕ)) → initial ≡ before bytes old → old ≡ before piece now → initial ≡ before (bytes ++ piece) now
@@ -36,9 +30,3 @@ module _ (bytes taken tail : List ℕ) (count : ℕ) (le : count ≤ length take
   pub limit_told : (limits : Limits) (which : Which) → first_passed limits bytes ≡ None
       → Some which ≡ first_passed_from limits (length bytes) (length (take count (taken ++ tail))) (bytes ++ take count (taken ++ tail)) → IfSome initial (λ left. first_passed limits left ≡ Some which)
   limit_told limits which none some = go limits which now refl none (rw same at some)
-
--- the status with which the program ends where the input wasn't read
-pub unread_ends : (told : Option (List ℕ)) (limits : Limits) (unread : Unread) (status : Status) → ((left : List ℕ) → StopsReading limits unread left → TakesActions (Err status) (actions_of limits left))
-    → IfSome told (λ left. StopsReading limits unread left) → IfSome told (λ left. TakesActions (Err status) (actions_of limits left))
-unread_ends None limits unread status ends stops = tt
-unread_ends (Some left) limits unread status ends stops = ends left stops

@@ -1,6 +1,6 @@
 -- Looking at one more byte of the input.
 use Rattle.std.proofs.Common.{◌≡◌, ℕ, zero, suc, length-append, ◌+◌, ◌-◌, ◌<◌, ◌≤◌, List, [], ◌∷◌, ◌++◌, length, take, get_or, slice_index_or, Option, Some, None, refl, ap, sym, subst, ◌∙◌, append_assoc, arith}
-use Rattle.std.specs.Prelude.{is_some, true, false, Bool}
+use Rattle.std.specs.Prelude.{is_some, true, false}
 use Rattle.std.proofs.Math.Seq.{take-suc, take-append-add}
 use Rattle.std.proofs.lemmas.List.{take-append-le}
 use Rattle.dk_engine.specs.declared.limits.Limits.{Limits}

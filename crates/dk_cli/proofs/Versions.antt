@@ -1,5 +1,5 @@
 -- A word that is no number of 64 bits is no version.
-use Rattle.std.proofs.Common.{◌≡◌, ℕ, ◌<◌, ◌^◌, ◌&&◌, List, length, Bool, true, false, Option, Some, None, Result, Err, refl, sym, ap, ◌∙◌, arith, rules, if◌then◌else◌}
+use Rattle.std.proofs.Common.{◌≡◌, ℕ, ◌<◌, ◌^◌, ◌&&◌, List, length, Bool, true, false, Some, None, Result, Err, refl, ◌∙◌, arith, rules, if◌then◌else◌}
 use Rattle.std.specs.Prelude.{nat_le, nat_lt, not}
 use Rattle.std.specs.Result.{OkIff}
 use Rattle.std.specs.Str.{all_ascii_digits}

@@ -1,5 +1,5 @@
 -- Lists, and structs that hold a value beside others, are read by their grammars.
-use Rattle.std.proofs.Common.{◌≡◌, ℕ, zero, suc, ◌==◌, true, false, ℤ, Option, Some, None, option_map, List, [], ◌∷◌, ◌++◌, length, Ok, inl, inr, refl, sym, ap, subst, ◌∙◌, append_assoc}
+use Rattle.std.proofs.Common.{◌≡◌, ℕ, zero, suc, ◌==◌, false, ℤ, Option, Some, None, option_map, List, [], ◌∷◌, ◌++◌, length, Ok, inl, inr, refl, sym, ap, subst, ◌∙◌, append_assoc}
 use Rattle.std.proofs.lemmas.Bool.{eqb-true, eq-eqb}
 use Rattle.dk_grammar.specs.Thrift.{Front, ◌>>=◌, list_at, head}
 use Rattle.dk_grammar.specs.Grammar.{ReadsBy, Spelled, SpellsList}

@@ -96,9 +96,6 @@ pub record Encodes (width : ℕ) (values out rest : List ℕ) : Type 0 where
   pub most : length out ≤ 40 + 5 * length values
   pub fit : All (λ value. value < 2 ^ width) rest
 
-pub nothing_encoded : (width : ℕ) (values : List ℕ) → All (λ value. value < 2 ^ width) values → Encodes width values [] values
-nothing_encoded width values fit = record { goes_on = λ tail is. is; share = λ _. omega arith; most = omega arith; fit = fit }
-
 rest_left : (count padding rest held after : ℕ) → (count < rest → padding ≡ 0) → held ≡ count + padding → after ≡ rest - count → rest - held ≡ after
 rest_left count padding rest held after last is left =
     elim (cases_lt count rest) [

@@ -21,12 +21,6 @@ pub record Continues (width count : ℕ) (bytes values rest : List ℕ) : Type 0
   pub first : (more tail : List ℕ) → AreFirst width (count - length values) more tail → AreFirst width count (values ++ more) (front ++ tail)
   pub short : EndShort width (count - length values) rest → EndShort width count bytes
 
-pub begin : (width count : ℕ) (bytes : List ℕ) → Continues width count bytes [] bytes
-begin width count bytes = record {
-  front = [];
-  whole = refl;
-  first = λ more tail is. subst (λ n. AreFirst width n more tail) (sub-zero count) is;
-  short = λ is. subst (λ n. EndShort width n bytes) (sub-zero count) is;
 }
 
 -- one run more in front of first values

@@ -118,9 +118,6 @@ unpublished version most (last, high, at) =
     let next = example_next in
     omega arith
 
-protocol_of_steps : (steps empty_state second_actions).protocol ≡ None
-protocol_of_steps = refl
-
 pub wrong_sum : IsForbidden example (Made (place_path (Compacted 0 1)) second_text (pos 2))
 wrong_sum horizon may =
     let compacts : Compacts example 0 1 second_text = at_place (Compacted 0 1) second_text (pos 2) horizon ((omega arith), (omega arith)) may in

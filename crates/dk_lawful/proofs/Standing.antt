@@ -20,9 +20,6 @@ text_refl a = (bytes_decides a a).1 refl
 pub commit_place : (version : ℕ) → version < 2 ^ 63 → place_of (commit_path version) ≡ Commit_at version
 commit_place version small = place_of_path (Commit_at version) small
 
-pub commit_path-of : (path : List ℕ) (version : ℕ) → place_of path ≡ Commit_at version → path ≡ commit_path version
-commit_path-of path version is = sym (path_of_place path).1 ∙ ap place_path is
-
 pub commit_small : (path : List ℕ) (version : ℕ) → place_of path ≡ Commit_at version → version < 2 ^ 63
 commit_small path version is = subst IsPlace is (path_of_place path).0
 

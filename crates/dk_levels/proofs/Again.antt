@@ -2,7 +2,7 @@
 use Rattle.std.proofs.Common.{◌≡◌, ℕ, zero, suc, ◌+◌, ◌<◌, ◌≤◌, true, false, ◌==◌, IsTrue, List, [], ◌∷◌, length, replicate, refl, sym, ap, ◌∙◌, arith, Some, None, eq-eqb}
 use Rattle.std.specs.Option.{option_map}
 use Rattle.std.proofs.lemmas.List.{append-nil, length-replicate}
-use Rattle.dk_pqmodel.specs.Shape.{Leaf, Shape, Field, Fields, field, no_fields, one_field, width_at, width_in, width_of, entry, key, root}
+use Rattle.dk_pqmodel.specs.Shape.{Leaf, Shape, Field, Fields, field, no_fields, one_field, width_at, width_in, width_of, entry, root}
 use Rattle.dk_pqmodel.specs.Shape as shape
 use Rattle.dk_pqmodel.specs.Datum.{Value, Datum, null, atom, group, list, Cells, no_cells, one_cell, Column, one_entry}
 use Rattle.dk_pqmodel.specs.Triples.{joined, cell_triples, group_triples, list_triples, later_triples, empty_columns, triples}

@@ -4,7 +4,7 @@ use Rattle.std.specs.Bool.{⊤}
 use Rattle.std.proofs.lemmas.Bool.Decides.{eqb_tells}
 use Rattle.std.specs.Option.{option_map}
 use Rattle.std.proofs.lemmas.List.{append-nil, length-append}
-use Rattle.dk_pqmodel.specs.Shape.{Shape, Field, Fields, field, no_fields, one_field, width_at, width_in, width_of, entry}
+use Rattle.dk_pqmodel.specs.Shape.{Shape, Field, Fields, field, no_fields, one_field, width_at, width_in, entry}
 use Rattle.dk_pqmodel.specs.Shape as shape
 use Rattle.dk_pqmodel.specs.Datum.{Value, Datum, null, atom, group, list, Cells, no_cells, one_cell, Entry, Column, one_entry}
 use Rattle.dk_pqmodel.specs.Triples.{joined, cell_triples, group_triples, list_triples, later_triples}

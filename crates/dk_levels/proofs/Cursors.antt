@@ -1,9 +1,9 @@
 -- Steps of the functions that read, over what is left of the columns.
 use Rattle.std.proofs.Common.{◌≡◌, ℕ, zero, suc, ◌+◌, ◌-◌, ◌<◌, ◌≤◌, Bool, true, false, List, [], ◌∷◌, ◌++◌, reverse, length, get_or, set, drop, map, refl, sym, ap, ◌∙◌, arith, Some, None, Option, MatchOption, option_to_list, vec_len, Vec, Box, Global, max}
 use Rattle.std.specs.Option.{option_map}
-use Rattle.std.proofs.lemmas.List.{drop_all, length-map, length-reverse, reverse-append}
+use Rattle.std.proofs.lemmas.List.{drop_all, reverse-append}
 use Rattle.dk_pqmodel.specs.declared.node.NodeKind as node
-use Rattle.dk_pqmodel.specs.Shape.{Field, width_at, width_in, width_of, deepest_in, deepest_of}
+use Rattle.dk_pqmodel.specs.Shape.{Field, width_in, width_of, deepest_in, deepest_of}
 use Rattle.dk_pqmodel.specs.Datum.{appended, Datum, Cells, no_cells, one_cell, list, group, Column}
 use Rattle.dk_pqmodel.specs.NodeView.{field_of, fields_of, shape_of}
 use Rattle.dk_pqmodel.specs.RowView.{datum_of, cells_of, rows_of}
@@ -14,13 +14,13 @@ use Rattle.dk_levels.specs.declared.levels.Repeated.{Repeated}
 use Rattle.dk_levels.specs.declared.levels.Repeated.TheVariants.{Elements, Entries}
 use Rattle.dk_pqmodel.specs.declared.node.Node.{Node}
 use Rattle.dk_pqmodel.specs.declared.row.Cell.{Cell}
-use Rattle.dk_levels.specs.Reading.{taken, first_entry, none_at, nothing_at, ◌>>=◌, Reader, later_at, list_at, present_at, each_at, cell_at, column_length}
+use Rattle.dk_levels.specs.Reading.{taken, first_entry, none_at, nothing_at, ◌>>=◌, Reader, later_at, list_at, present_at, each_at, cell_at}
 use Rattle.dk_levels.specs.Solid.{IsSolid, AreSolid}
 use Rattle.dk_levels.specs.Fronts.{fronts, front_of, element_at, element_width, with_front, Fails}
 use Rattle.dk_pqmodel.specs.declared.fault.PqFault.{PqFault}
 use Rattle.dk_pqmodel.specs.declared.fault.PqFault.TheVariants.{NotParquet, Shape, Compressed, Encoding, Broken, OutOfMemory}
 use Rattle.dk_levels.proofs.Begins.{taken_suc, wide}
-use Rattle.dk_pqmodel.proofs.NodeViews.{field_of-is, fields_of-drop, shape_of-List, shape_of-Map}
+use Rattle.dk_pqmodel.proofs.NodeViews.{fields_of-drop, shape_of-List, shape_of-Map}
 
 -- what is taken off the end of a turned column is its first triple
 front_is : (v new : Vec Triple Global) (t : Triple) → v.items ≡ new.items ++ t ∷ [] → front_of v ≡ entry_of t ∷ front_of new
@@ -81,34 +81,12 @@ each_step ns i n cs now c before after r d k place next total h is read pushed a
     ∙ moved cs c (each_at (fields_of (drop (i + 1) ns)) r d k (place + width_in (field_of n)) after)
     ∙ (rw (fields_of-drop ns i n h is, read) at p)
 
--- one that is not read
-pub each_stop : (ns : List Node) (i : ℕ) (n : Node) (cs : List Cell) (before : List Column) (r d k place : ℕ) (total : Option (Cells × List Column))
-    → i < length ns → n ≡ get_or ns i n → cell_at (field_of n) r d k place before ≡ None
-    → with_front (cells_of cs) (each_at (fields_of (drop i ns)) r d k place before) ≡ total → total ≡ None
-each_stop ns i n cs before r d k place total h is read p = sym (rw (fields_of-drop ns i n h is, read) at p)
-
 pub nothing_step : (end i r d : ℕ) (cs rest : List Column) (total : Option (List Column)) → i < end → none_at r d i cs ≡ Some rest
     → nothing_at (end - i) r d i cs ≡ total → nothing_at (end - (i + 1)) r d (i + 1) rest ≡ total
 nothing_step end i r d cs rest total h one p =
     let e : end - i ≡ suc (end - (i + 1)) = omega arith in
     let q : (none_at r d i cs >>= λ more. nothing_at (end - (i + 1)) r d (i + 1) more) ≡ total = ap (λ n. nothing_at n r d i cs) (sym e) ∙ p in
     rw one at q
-
-pub nothing_stop : (end i r d : ℕ) (cs : List Column) (total : Option (List Column)) → i < end → none_at r d i cs ≡ None
-    → nothing_at (end - i) r d i cs ≡ total → total ≡ None
-nothing_stop end i r d cs total h one p =
-    let e : end - i ≡ suc (end - (i + 1)) = omega arith in
-    let q : (none_at r d i cs >>= λ more. nothing_at (end - (i + 1)) r d (i + 1) more) ≡ total = ap (λ n. nothing_at n r d i cs) (sym e) ∙ p in
-    sym (rw one at q)
-
-pub nothing_end : (end i r d : ℕ) (cs : List Column) (total : Option (List Column)) → end ≤ i → nothing_at (end - i) r d i cs ≡ total → total ≡ Some cs
-nothing_end end i r d cs total h p =
-    let e : end - i ≡ 0 = omega arith in sym p ∙ ap (λ n. nothing_at n r d i cs) e
-
-pub width_step : (ns : List Node) (i : ℕ) (n : Node) (sum total : ℕ) → i < length ns → n ≡ get_or ns i n → sum + width_of (fields_of (drop i ns)) ≡ total
-    → sum + width_at (shape_of n.kind) + width_of (fields_of (drop (i + 1) ns)) ≡ total
-width_step ns i n sum total h is p =
-    let q : sum + (width_at (shape_of n.kind) + width_of (fields_of (drop (i + 1) ns))) ≡ total = rw (fields_of-drop ns i n h is, field_of-is n) at p in omega arith
 
 -- the cells of the fields that are left
 pub record EachLeft (nodes : List Node) (cells : List Cell) (now : List Column) (r d k next : ℕ) (total : Option (Cells × List Column)) (end : ℕ) : Type 0 where
@@ -156,13 +134,6 @@ pub later_done : (read : Reader) (goes : List Column → Bool) (n : ℕ) (cs : L
 later_done read goes zero cs front total g p = let q : Some (appended front no_cells, cs) ≡ total = rw g at p in sym q ∙ ap (λ x. Some (x, cs)) (appended_nothing front)
 later_done read goes (suc n) cs front total g p = let q : Some (appended front no_cells, cs) ≡ total = rw g at p in sym q ∙ ap (λ x. Some (x, cs)) (appended_nothing front)
 
-pub later_out : (read : Reader) (goes : List Column → Bool) (most i : ℕ) (cs : List Column) (front : Cells) (total : Option (Cells × List Column))
-    → goes cs ≡ true → most ≤ i → with_front front (later_at read goes (most - i) cs) ≡ total → total ≡ None
-later_out read goes most i cs front total g h p =
-    let e : most - i ≡ 0 = omega arith in
-    let q : with_front front (later_at read goes 0 cs) ≡ total = ap (λ n. with_front front (later_at read goes n cs)) (sym e) ∙ p in
-    sym (rw g at q)
-
 pub later_fails : (read : Reader) (goes : List Column → Bool) (most i : ℕ) (cs : List Column) (front : Cells) (total : Option (Cells × List Column)) (e : PqFault)
     → goes cs ≡ true → i < most → Fails e (read cs) → with_front front (later_at read goes (most - i) cs) ≡ total → Fails e total
 later_fails read goes most i cs front total OutOfMemory g h bad p = tt
@@ -182,11 +153,6 @@ later_more read goes most i before after cs now c total g h got pushed p =
     let e : most - i ≡ suc (most - (i + 1)) = omega arith in
     let q : with_front (cells_of cs) (later_at read goes (suc (most - (i + 1))) before) ≡ total = ap (λ n. with_front (cells_of cs) (later_at read goes n before)) (sym e) ∙ p in
     ap (λ x. with_front (cells_of x) (later_at read goes (most - (i + 1)) after)) pushed ∙ moved cs c (later_at read goes (most - (i + 1)) after) ∙ (rw (g, got) at q)
-
-pub column_length-fronts : (rest : List (Vec Triple Global)) (place : ℕ) (d : Vec Triple Global) → place < length rest → column_length (fronts rest) place ≡ length (get_or rest place d).items
-column_length-fronts [] place d h = absurd (omega arith)
-column_length-fronts (v ∷ rest) zero d h = length-map (reverse v.items) entry_of ∙ length-reverse v.items
-column_length-fronts (v ∷ rest) (suc place) d h = column_length-fronts rest place d (omega arith)
 
 -- ---- a list's kind
 
@@ -232,7 +198,3 @@ fails_map (Shape c) o h = absurd h
 fails_map (Compressed c n) o h = absurd h
 fails_map (Encoding c n) o h = absurd h
 fails_map Broken o h = ap (option_map (λ p. (group p.0, p.1))) h
-
-pub nothing_before : (o : Option (Cells × List Column)) → with_front no_cells o ≡ o
-nothing_before None = refl
-nothing_before (Some p) = refl

@@ -1,7 +1,7 @@
 -- What is read of a file for a schema can be read.
 use Rattle.std.proofs.Common.{◌≡◌, ℕ, ◌+◌, ◌*◌, ◌<◌, ◌≤◌, Bool, true, false, cond, ◌&&◌, [], ◌∷◌, ◌++◌, Option, Some, None, refl, arith}
 use Rattle.std.specs.Option.{option_map}
-use Rattle.dk_pqmodel.specs.Shape.{Leaf, chars, Shape, leaf, dictionary, Field, field, Fields, no_fields, one_field, width_in, width_of, deepest_in, deepest_of}
+use Rattle.dk_pqmodel.specs.Shape.{chars, Shape, leaf, dictionary, Field, field, Fields, no_fields, one_field, width_of, deepest_in, deepest_of}
 use Rattle.dk_pqmodel.specs.Shape as shape
 use Rattle.dk_pqmodel.specs.Schema.{levels_at, levels_in, levels_of, IsSchema}
 use Rattle.dk_pqmodel.specs.FileSchema.{FileNode, FileNodes, node_name, is_optional, named_in, leaf_kind, group_nodes, repeated_node, only_node, two_nodes}

@@ -1,5 +1,5 @@
 -- Laws of `joined` and `from`.
-use Rattle.std.proofs.Common.{◌≡◌, ℕ, zero, suc, ◌+◌, ◌<◌, ◌≤◌, List, [], ◌∷◌, ◌++◌, length, get_or, set, refl, sym, ap, ◌∙◌, arith, append_assoc, zero-add}
+use Rattle.std.proofs.Common.{◌≡◌, ℕ, zero, suc, ◌+◌, ◌<◌, ◌≤◌, List, [], ◌∷◌, ◌++◌, length, refl, sym, ap, ◌∙◌, arith, append_assoc, zero-add}
 use Rattle.std.proofs.lemmas.List.{append-nil}
 use Rattle.dk_pqmodel.specs.Datum.{Column}
 use Rattle.dk_pqmodel.specs.Triples.{joined}
@@ -30,11 +30,6 @@ from-from (suc place) more b =
     let e : suc place + more ≡ suc (place + more) = omega arith in
     rw e (ap (λ t. [] ∷ t) (from-from place more b))
 
-pub joined-one : (place : ℕ) (cs : List Column) (t : Column) → place < length cs → joined cs (from place (t ∷ [])) ≡ set cs place (get_or cs place [] ++ t)
-joined-one place [] t h = absurd (omega arith)
-joined-one zero (c ∷ cs) t h = ap (λ m. (c ++ t) ∷ m) (joined-nothing cs)
-joined-one (suc place) (c ∷ cs) t h = cc (append-nil c, joined-one place cs t (omega arith))
-
 -- two writes one after the other
 pub adds_again : (place : ℕ) (cs a b : List Column) → joined (joined cs (from place a)) (from place b) ≡ joined cs (from place (joined a b))
 adds_again place cs a b = joined_assoc cs _ _ ∙ ap (joined cs) (joined-from place a b)
@@ -50,7 +45,3 @@ length-joined [] [] n h e = e
 length-joined [] (y ∷ b) n h e = absurd (omega arith)
 length-joined (x ∷ a) [] n h e = e
 length-joined (x ∷ a) (y ∷ b) n h e = omega (arith, length-joined a b (length a) (omega arith) refl)
-
-pub length-from : (place : ℕ) (a : List Column) → length (from place a) ≡ place + length a
-length-from zero a = sym (zero-add _)
-length-from (suc place) a = omega (arith, length-from place a)

@@ -1,7 +1,7 @@
 -- What `put` and its kin need of cells that fit.
 use Rattle.std.proofs.Common.{◌≡◌, ℕ, zero, suc, ◌+◌, ◌<◌, ◌≤◌, Bool, true, false, cond, List, [], ◌∷◌, ◌++◌, length, get_or, drop, rules, Vec, Box, Global, refl, sym, ap, ◌∙◌, arith, add-one, max, add-zero}
 use Rattle.std.proofs.lemmas.List.{append-nil, length-append, length-replicate, length-map, drop_all}
-use Rattle.dk_pqmodel.specs.Shape.{Shape, Field, Fields, field, no_fields, one_field, shape_in, fields_at, element_at, width_at, width_in, width_of, deepest_at, deepest_in, deepest_of, entry, key, root}
+use Rattle.dk_pqmodel.specs.Shape.{Shape, Field, Fields, field, no_fields, one_field, width_at, width_in, width_of, deepest_in, deepest_of, entry, key, root}
 use Rattle.dk_pqmodel.specs.Shape as shape
 use Rattle.dk_pqmodel.specs.Datum.{Value, Datum, null, atom, group, list, Cells, no_cells, one_cell, Column}
 use Rattle.dk_pqmodel.specs.Triples.{joined, reached, cell_triples, group_triples, list_triples, later_triples}
@@ -19,9 +19,6 @@ use Rattle.dk_levels.specs.Places.{from, Adds}
 use Rattle.dk_levels.proofs.Joins.{length-joined, adds_again, adds_beside, joined-nothing}
 use Rattle.dk_pqmodel.proofs.NodeViews.{field_of-is, fields_of-drop, shape_of-List, shape_of-Map}
 use Rattle.dk_levels.proofs.Pending.{Pending, GroupPending, LaterPending, RowsPending, pending_step, pending_ends, joined-empties}
-
-pub datum_of-Group : (v : Vec Cell Global) → datum_of (cell.Group v) ≡ group (cells_of v.items)
-datum_of-Group v = search (rules, the_lemmas)
 
 pub datum_of-List : (v : Vec Cell Global) → datum_of (cell.List v) ≡ list (cells_of v.items)
 datum_of-List v = search (rules, the_lemmas)
@@ -138,18 +135,6 @@ group_loop ns cs i n c columns more next after r d k end total hn en hc ec added
       deep = omega arith;
     }
 
--- what the call needs
-pub group_fits : (ns : List Node) (cs : List Cell) (i : ℕ) (n : Node) (c : Cell) (columns : List (Vec Triple Global)) (next r d k end : ℕ) (total : List Column)
-    → i < length ns → n ≡ get_or ns i n → i < length cs → c ≡ get_or cs i c → GroupPending columns next (drop i ns) (drop i cs) r d k total end
-    → Matches (datum_of c) (field_of n) × (d + deepest_in (field_of n) < 256) × (next + width_in (field_of n) ≤ end)
-group_fits ns cs i n c columns next r d k end total hn en hc ec p =
-    let es = cells_of-drop cs i c hc ec in
-    let fs = fields_of-drop ns i n hn en in
-    let fits : Matches (datum_of c) (field_of n) × MatchEach (cells_of (drop (i + 1) cs)) (fields_of (drop (i + 1) ns)) = rw (es, fs) at p.fits in
-    let deep : d + max (deepest_in (field_of n)) (deepest_of (fields_of (drop (i + 1) ns))) < 256 = rw fs at p.deep in
-    let ends : next + (width_in (field_of n) + width_of (fields_of (drop (i + 1) ns))) ≡ end = rw fs at p.pending.ends in
-    (fits.0, omega arith, omega arith)
-
 pub group_within : (ns : List Node) (cs : List Cell) (i : ℕ) → MatchEach (cells_of cs) (fields_of ns) → i < length cs → i < length ns
 group_within ns cs i h l = omega (arith, fit_each_within ns cs h)
 
@@ -193,10 +178,6 @@ list_ends f cs c columns between more leaf r d k h is first others =
 
 -- ---- entries of a map
 
-pub into_entry : (f : Field) (c : Cell) (v : Vec Cell Global) → c ≡ cell.Group v → Matches (datum_of c) (entry f)
-    → MatchEach (cells_of v.items) (one_field key (one_field f no_fields))
-into_entry f c v e h = rw (e, datum_of-Group v) at h
-
 pub two_cells : (cs : List Cell) (f : Field) → MatchEach (cells_of cs) (one_field key (one_field f no_fields)) → length cs ≡ 2
 two_cells [] f h = absurd h
 two_cells (a ∷ []) f h = absurd h.1
@@ -221,11 +202,6 @@ rows_loop fs rows i row columns more total h is added p =
       columns_are = ap (λ x. joined x (from 0 (later_triples (rows_of (drop (i + 1) rows)) (root fs) 0 0))) added ∙ adds_again 0 (columns_of columns) _ _ ∙ are;
       fits = fits.1;
     }
-
-pub row_fits : (fs : Fields) (rows : List Row) (i : ℕ) (row : Row) (columns : List (Vec Triple Global)) (total : List Column)
-    → i < length rows → row ≡ get_or rows i row → RowsPending columns fs (drop i rows) total → MatchEach (cells_of row.cells.items) fs
-row_fits fs rows i row columns total h is p =
-    let fits : MatchEach (cells_of row.cells.items) fs × MatchAll (rows_of (drop (suc i) rows)) (root fs) = rw (rows_of-drop_suc rows i row h is) at p.fits in fits.0
 
 pub rows_end : (fs : Fields) (rows : List Row) (i : ℕ) (columns : List (Vec Triple Global)) (total : List Column)
     → length rows ≤ i → RowsPending columns fs (drop i rows) total → columns_of columns ≡ total

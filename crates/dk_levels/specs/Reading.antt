@@ -1,6 +1,6 @@
 -- Reading cells off the fronts of the columns, from a place on.
 use Rattle.std.specs.Prelude.{ℕ, zero, suc, ◌+◌, Bool, true, false, ◌&&◌, if◌then◌else◌, ◌==◌, List, [], ◌∷◌, length, Option, Some, None, option_map, is_none, slice_index_or, slice_set}
-use Rattle.dk_pqmodel.specs.Shape.{Leaf, Shape, Field, field, Fields, no_fields, one_field, width_at, width_in, width_of, root, entry}
+use Rattle.dk_pqmodel.specs.Shape.{Leaf, Shape, Field, field, Fields, no_fields, one_field, width_at, width_in, width_of, root}
 use Rattle.dk_pqmodel.specs.Shape as shape
 use Rattle.dk_pqmodel.specs.Datum.{Value, Datum, null, atom, group, list, Cells, no_cells, one_cell, Entry, Column}
 use Rattle.dk_pqmodel.specs.Fits.{is_of_kind}

@@ -1,5 +1,5 @@
 -- An object that shows the fields of an action is read as that action, whatever made it.
-use Rattle.std.proofs.Common.{◌≡◌, ℕ, ℤ, Bool, true, false, not, List, Option, Some, None, option_map, option_and_then, codes, refl, sym, ap, ◌∙◌}
+use Rattle.std.proofs.Common.{◌≡◌, ℕ, ℤ, true, false, List, Option, Some, None, option_map, option_and_then, codes, refl, sym, ap, ◌∙◌}
 use Rattle.std.specs.Prelude.{IfSome}
 use Rattle.serde_json.specs.Data.{Data}
 use Rattle.dk_model.specs.Pairs.{AreKeysRising}
@@ -13,7 +13,6 @@ use Rattle.dk_model.specs.declared.action.CheckpointMeta.{CheckpointMeta}
 use Rattle.dk_model.specs.declared.action.SidecarRef.{SidecarRef}
 use Rattle.dk_model.specs.declared.action.Action.{Action}
 use Rattle.dk_model.specs.declared.action.Action.TheVariants as action
-use Rattle.dk_model.specs.declared.action_key.ActionKey.TheVariants as key
 use Rattle.dk_model.specs.ActionKeys.{all_keys}
 use Rattle.dk_model.specs.Fields.{present, field, formed, optional, needed, lenient, whole, version, count, text, flag, names, pairs, group}
 use Rattle.dk_model.specs.Shown.{Field, text_data, whole_data, names_data, pairs_data, object_with, Shows}
@@ -25,7 +24,7 @@ use Rattle.dk_model.specs.TxnObject.{txn_of, txn_fields}
 use Rattle.dk_model.specs.DomainObject.{domain_of, domain_fields}
 use Rattle.dk_model.specs.CheckpointObjects.{checkpoint_meta_of, checkpoint_meta_fields, sidecar_of, sidecar_fields}
 use Rattle.dk_model.specs.InfoObject.{info_of, own_info_fields, own_info_object}
-use Rattle.dk_model.specs.ActionObject.{action_under, action_of, inner_object, object_of}
+use Rattle.dk_model.specs.ActionObject.{action_of, object_of}
 use Rattle.dk_model.specs.Ranges.{IsWhole, IsProtocolInRange, IsMetadataInRange, IsAddInRange, IsRemoveInRange, IsTxnInRange, IsCheckpointMetaInRange, IsSidecarInRange, IsInRange}
 use Rattle.dk_model.specs.ReadBack.{HasRisingKeys, has_vector, is_written, own_info}
 use Rattle.dk_model.proofs.Found.{found}

@@ -1,15 +1,10 @@
 -- One entry more, and what is left of a dictionary's body then.
 use Rattle.std.proofs.Common.{◌≡◌, ℕ, suc, ◌+◌, ◌-◌, ◌<◌, Option, Some, None, option_map, option_and_then, List, [], ◌∷◌, ◌++◌, refl, sym, ap, ◌∙◌, append_assoc, arith}
-use Rattle.std.proofs.lemmas.List.{append-nil}
 use Rattle.dk_pages.specs.declared.dictionary.Physical.{Physical}
 use Rattle.dk_pages.specs.Entries.{entry_at, entries_at, entries_then}
 
 left_over : (n i : ℕ) → i < n → n - i ≡ suc (n - (i + 1))
 left_over n i h = omega arith
-
-pub nothing_taken : (left : Option (List (List ℕ) × List ℕ)) → entries_then [] left ≡ left
-nothing_taken None = refl
-nothing_taken (Some x) = refl
 
 one_taken : (done : List (List ℕ)) (entry : List ℕ) (left : Option (List (List ℕ) × List ℕ))
     → entries_then done (option_map (λ more. (entry ∷ more.0, more.1)) left) ≡ entries_then (done ++ (entry ∷ [])) left
@@ -25,6 +20,3 @@ module _ (kind : Physical) (n i : ℕ) (done : List (List ℕ)) (rest : List ℕ
 
   pub entry_taken : (entry behind : List ℕ) → entry_at kind rest ≡ Some (entry, behind) → entries_then (done ++ (entry ∷ [])) (entries_at kind (n - (i + 1)) behind) ≡ whole
   entry_taken entry behind e = sym (one_taken done entry (entries_at kind (n - (i + 1)) behind)) ∙ (rw e at first)
-
-pub all_taken : (kind : Physical) (m : ℕ) (done : List (List ℕ)) (rest : List ℕ) (whole : Option (List (List ℕ) × List ℕ)) → m ≡ 0 → entries_then done (entries_at kind m rest) ≡ whole → whole ≡ Some (done, rest)
-all_taken kind m done rest whole e w = sym w ∙ rw e (ap (λ entries. Some (entries, rest)) (append-nil done))

@@ -3,7 +3,7 @@ use Rattle.std.specs.Prelude.{◌≡◌, ℕ, Option, Result, Ok, Err, IsErr, �
 use Rattle.dk_grammar.specs.Thrift.{Front, ◌>>=◌}
 use Rattle.dk_thrift.specs.Reading.{Reading}
 use Rattle.dk_thrift.specs.declared.fault.ThriftFault.{ThriftFault}
-use Rattle.dk_grammar.specs.Structs.{Listed, Meaning, fields_from}
+use Rattle.dk_grammar.specs.Structs.{Listed}
 
 -- The fields are found, and the reader stands behind them; or there are none.
 abbrev pub Finds : {V X : Type 0} → (Listed V → X) → Reading → Reading → Result X ThriftFault → Front (Listed V) → Type 0

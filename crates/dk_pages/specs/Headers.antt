@@ -1,9 +1,9 @@
 -- Page headers (Apache Parquet, parquet.thrift, PageHeader), from the fields of their structs by id.
-use Rattle.std.specs.Prelude.{ℕ, ◌==◌, ◌^◌, ◌&&◌, ◌||◌, nat_lt, int_le, Bool, if◌then◌else◌, ℤ, pos, negsuc, Option, Some, None, option_map, option_and_then, unwrap_or, Ok, Err, List, [], ◌∷◌, ◌++◌}
+use Rattle.std.specs.Prelude.{ℕ, ◌==◌, ◌^◌, ◌&&◌, ◌||◌, nat_lt, int_le, if◌then◌else◌, ℤ, pos, negsuc, Option, Some, None, option_map, option_and_then, unwrap_or, Ok, Err, List, [], ◌∷◌, ◌++◌}
 use Rattle.std.specs.Ordering.{int_eq}
 use Rattle.dk_grammar.specs.Thrift.{Front, ◌>>=◌}
-use Rattle.dk_grammar.specs.PageHeaders.{Part, number, inner, part_meaning, numbers_in, inners_in, inner_under}
-use Rattle.dk_grammar.specs.Structs.{Listed, Meaning, struct_at, number_meaning, last_under, when, first_of_two}
+use Rattle.dk_grammar.specs.PageHeaders.{Part, number, inner, part_meaning, numbers_in, inner_under}
+use Rattle.dk_grammar.specs.Structs.{Listed, struct_at, last_under, when, first_of_two}
 use Rattle.dk_pages.specs.declared.numbers.Numbers.{Numbers}
 use Rattle.dk_pages.specs.declared.fields.Fields.{Fields}
 use Rattle.dk_pages.specs.declared.header.Header.{Header}

@@ -1,9 +1,6 @@
 -- Where a page stands, apart from reading it.
-use Rattle.std.specs.Prelude.{◌≡◌, ℕ, zero, suc, ◌==◌, ◌&&◌, IsTrue, IsFalse, ℤ, pos, Option, Some, None, List, [], ◌++◌, length}
-use Rattle.dk_grammar.specs.Grammar.{SpellsField, SpellsWhole}
-use Rattle.dk_grammar.specs.Nested.{Behind, SpellsValue}
-use Rattle.dk_grammar.specs.declared.thrift.Field.TheVariants.{End, Next}
-use Rattle.dk_grammar.specs.Structs.{Listed, under, is_whole}
+use Rattle.std.specs.Prelude.{◌≡◌, ℕ, zero, suc, ◌==◌, ◌&&◌, ℤ, pos, Some, List, [], ◌++◌, length}
+use Rattle.dk_grammar.specs.Structs.{Listed}
 use Rattle.dk_grammar.specs.PageHeaders.{Part, SpellsHeader}
 use Rattle.dk_pages.specs.Headers.{fields_of, header_of}
 use Rattle.dk_pages.specs.Pages.{Page, page_with}

@@ -125,7 +125,3 @@ is_place_of path = of_rest path (behind log_front path) refl refl
 
 pub path_of_place : PathOfPlace
 path_of_place path = let fact = is_place_of path in (fact.allowed, fact.written)
-
--- each place is that of one path
-pub one_path : (a b : List ℕ) → place_of a ≡ place_of b → a ≡ b
-one_path a b same = sym (path_of_place a).1 ∙ ap place_path same ∙ (path_of_place b).1

@@ -123,10 +123,6 @@ pub record NoKind (kind : List ℕ) : Type 0 where
   pub no_json : (id : ℕ) → id < 2 ^ 128 → kind ≡ id_text id ++ codes ".json" → ⊥
   pub no_parquet : (id : ℕ) → id < 2 ^ 128 → kind ≡ id_text id ++ codes ".parquet" → ⊥
 
--- behind `.checkpoint.` stands what is left of the ending
-checkpoint_rest : (rest kind : List ℕ) → codes ".checkpoint." ++ rest ≡ codes ".checkpoint." ++ kind → rest ≡ kind
-checkpoint_rest rest kind same = ap (drop 12) same
-
 not_equal_letters : (j c : ℕ) → j ≡ 106 → c ≡ 99 → j ≡ c → ⊥
 not_equal_letters j c is_j is_c same = omega arith
 

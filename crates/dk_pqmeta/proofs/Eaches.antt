@@ -1,9 +1,7 @@
 -- Values of a list, one after another: those done and those left are all.
-use Rattle.std.proofs.Common.{◌≡◌, ℕ, zero, suc, ◌+◌, ◌-◌, ◌<◌, ◌==◌, List, [], ◌∷◌, ◌++◌, Result, Ok, Err, IsErr, true, false, refl, sym, ap, subst, ◌∙◌, append_assoc, arith}
-use Rattle.std.proofs.lemmas.List.{append-nil}
-use Rattle.dk_grammar.specs.Thrift.{Front, ◌>>=◌, list_at}
-use Rattle.dk_grammar.specs.Lists.{each_at, list_of}
-use Rattle.dk_grammar.specs.declared.thrift.Flaw.{Flaw}
+use Rattle.std.proofs.Common.{◌≡◌, ℕ, zero, suc, ◌+◌, ◌-◌, ◌<◌, ◌==◌, List, [], ◌∷◌, ◌++◌, Ok, Err, IsErr, refl, sym, ap, subst, ◌∙◌, append_assoc, arith}
+use Rattle.dk_grammar.specs.Thrift.{Front, ◌>>=◌}
+use Rattle.dk_grammar.specs.Lists.{each_at}
 use Rattle.dk_thrift.specs.Walks.{after}
 use Rattle.dk_thrift.proofs.Walking.{flaw_stays}
 
@@ -23,6 +21,3 @@ module _ {A : Type 0} (read : List ℕ → Front A) (n i : ℕ) (done : List A) 
 
   pub each_goes_on : (x : A) (next : List ℕ) → read bytes ≡ Ok (x, next) → after (done ++ (x ∷ [])) (each_at read (n - (i + 1)) next) ≡ whole
   each_goes_on x next e = sym (one_done done x (each_at read (n - (i + 1)) next)) ∙ (rw e at first)
-
-pub each_done : {A : Type 0} (read : List ℕ → Front A) (n : ℕ) (done : List A) (bytes : List ℕ) (whole : Front (List A)) → n ≡ 0 → after done (each_at read n bytes) ≡ whole → whole ≡ Ok (done, bytes)
-each_done read n done bytes whole e w = sym w ∙ rw e (ap (λ xs. Ok (xs, bytes)) (append-nil done))

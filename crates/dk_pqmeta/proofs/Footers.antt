@@ -1,5 +1,5 @@
 -- The footer is read exactly where one is spelled.
-use Rattle.std.proofs.Common.{◌≡◌, ℕ, ◌==◌, ◌<◌, Bool, true, false, cond, ℤ, pos, Option, Some, None, option_and_then, List, [], ◌∷◌, ◌++◌, length, Ok, Err, Bor, refl, sym, ap, subst, ◌∙◌, inl, inr, arith}
+use Rattle.std.proofs.Common.{◌≡◌, ℕ, ◌==◌, ◌<◌, Bool, true, false, cond, ℤ, pos, Some, None, option_and_then, List, [], ◌∷◌, ◌++◌, length, Ok, Err, refl, sym, ap, subst, ◌∙◌, inl, inr, arith}
 use Rattle.std.proofs.lemmas.Bool.{eqb-true}
 use Rattle.std.proofs.lemmas.List.{append-nil}
 use Rattle.std.specs.Str.{is_utf8}
@@ -19,7 +19,6 @@ use Rattle.dk_pqmeta.specs.Trees.{footer_from, tree_of}
 use Rattle.dk_pqmeta.specs.Footers.{whole_of, file_in}
 use Rattle.dk_pqmeta.proofs.Framing.{framed_once}
 use Rattle.dk_pqmeta.proofs.Trees.{none_is_not_some, some_is, some_bound, tree_found, tree_only}
-use Rattle.dk_grammar.specs.declared.thrift.Flaw.{Flaw}
 
 name_spelled : (bytes rest name : List ℕ) → name_at bytes ≡ Ok (name, rest) → Spelled SpellsName bytes name rest
 name_spelled bytes rest name h =

@@ -2,7 +2,7 @@
 use Rattle.std.proofs.Common.{◌≡◌, ◌≢◌, ℕ, ◌+◌, ◌-◌, ◌<◌, ◌≤◌, ◌^◌, List, ◌++◌, length, take, drop, refl, sym, ap, subst, ◌∙◌, append_assoc, length-drop, lit<, arith, Option, Some, None, MatchOption, Bor}
 use Rattle.std.proofs.Math.Seq.{drop-append_seam, take-append_seam}
 use Rattle.std.proofs.lemmas.List.{take-append-drop, length-append}
-use Rattle.dk_grammar.specs.Digits.{number_of, digits_of}
+use Rattle.dk_grammar.specs.Digits.{number_of}
 use Rattle.dk_grammar.specs.Plain.{little}
 use Rattle.dk_pqmodel.specs.FooterBytes.{IsFramed, magic}
 use Rattle.dk_grammar.proofs.Digits.{length-digits_of, number_of-digits_of}

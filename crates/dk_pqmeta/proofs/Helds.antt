@@ -1,11 +1,11 @@
 -- The values of a struct's fields of one sort, where one field more stands at the end.
-use Rattle.std.proofs.Common.{◌≡◌, ℕ, ◌==◌, true, false, ℤ, Option, Some, None, Ok, IsErr, List, [], ◌∷◌, ◌++◌, option_map, refl, sym, ap, ◌∙◌, append_assoc, Bool}
+use Rattle.std.proofs.Common.{◌≡◌, ℕ, ◌==◌, true, false, ℤ, Option, Some, Ok, IsErr, List, [], ◌∷◌, ◌++◌, option_map, refl, sym, ap, ◌∙◌, append_assoc}
 use Rattle.std.proofs.lemmas.Bool.{and_parts}
 use Rattle.std.proofs.lemmas.List.{append-nil}
 use Rattle.std.specs.Ordering.{int_eq}
 use Rattle.dk_grammar.specs.Thrift.{Front, ◌>>=◌}
 use Rattle.dk_grammar.proofs.LastUnder.{last_more}
-use Rattle.dk_grammar.specs.Structs.{Listed, Meaning, under, when, first_of_two, last_under, number_meaning}
+use Rattle.dk_grammar.specs.Structs.{Listed, Meaning, last_under}
 use Rattle.dk_grammar.specs.Lists.{Either, held, other, is_held, held_or, own_held, own_other, held_in, others_in}
 use Rattle.dk_pqmodel.specs.Footer.{held_under, number_under}
 use Rattle.dk_pqmeta.specs.Kept.{new_at}

@@ -1,10 +1,10 @@
 -- The tree is read exactly where the elements spell one.
 use Rattle.std.proofs.Common.{◌≡◌, ℕ, zero, suc, ◌+◌, ◌-◌, ◌<◌, ◌≤◌, ◌==◌, nat_le, max, Bool, true, false, cond, ◌&&◌, IsTrue, ℤ, pos, negsuc, Option, Some, None, option_and_then, List, [], ◌∷◌, ◌++◌, length, refl, sym, ap, subst, ◌∙◌, append_assoc, arith}
-use Rattle.std.proofs.lemmas.Bool.{and_parts, and_from, leb-true, le-leb, eqb-true}
+use Rattle.std.proofs.lemmas.Bool.{and_parts, and_from, eqb-true}
 use Rattle.std.proofs.lemmas.List.{append-nil}
 use Rattle.dk_pqmodel.specs.FileSchema.{FileNode, file_node, FileNodes, no_nodes, one_node}
 use Rattle.dk_pqmodel.specs.Footer.{◌>=◌, Element, count_of, flat, flat_of, are_new, is_sound, are_sound, levels_in, levels_of, most_file_levels, IsTree}
-use Rattle.dk_pqmeta.specs.Trees.{repetition_at, each_node, if_new, group_by, node_with, node_at, if_all, tree_of}
+use Rattle.dk_pqmeta.specs.Trees.{repetition_at, each_node, if_new, group_by, node_at, if_all, tree_of}
 use Rattle.dk_pqmeta.specs.View.{nodes_of_list}
 
 -- the nodes as a list

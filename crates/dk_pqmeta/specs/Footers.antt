@@ -1,12 +1,11 @@
 -- The footer of a file, by cases on the bytes, and what is answered.
-use Rattle.std.specs.Prelude.{◌≡◌, ◌-◌, ℕ, nat_le, ◌==◌, ◌&&◌, if◌then◌else◌, Option, Some, None, Result, Ok, Err, List, [], ◌∷◌, length, take, drop}
+use Rattle.std.specs.Prelude.{◌≡◌, ◌-◌, ℕ, ◌==◌, ◌&&◌, if◌then◌else◌, Option, Some, None, Result, Ok, Err, List, [], ◌∷◌, length}
 use Rattle.dk_grammar.specs.Thrift.{Front}
 use Rattle.dk_pqmodel.specs.declared.fault.PqFault.{PqFault}
 use Rattle.dk_pqmodel.specs.declared.fault.PqFault.TheVariants as pq
 use Rattle.dk_pqmodel.specs.Footer.{FileFields, Footer}
 use Rattle.dk_pqmodel.specs.FooterBytes.{IsFramed, HasFooter}
 use Rattle.dk_pqmeta.specs.Readings.{file_at}
-use Rattle.dk_pqmeta.specs.Trees.{footer_from}
 use Rattle.dk_pqmeta.specs.View.{footer_view}
 use Rattle.dk_pqmeta.specs.declared.footer.Footer as code
 

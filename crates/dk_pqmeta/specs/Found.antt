@@ -1,7 +1,7 @@
 -- What functions over a reader find of a footer.
-use Rattle.std.specs.Prelude.{◌≡◌, ◌++◌, ℕ, List, Result, Ok, Err, IsErr}
+use Rattle.std.specs.Prelude.{◌≡◌, ◌++◌, ℕ, Result, Ok, Err, IsErr}
 use Rattle.dk_grammar.specs.Thrift.{Front, ◌>>=◌}
-use Rattle.dk_grammar.specs.Structs.{Listed, Meaning, fields_from}
+use Rattle.dk_grammar.specs.Structs.{Listed}
 use Rattle.dk_thrift.specs.Reading.{Reading}
 use Rattle.dk_pqmeta.specs.declared.fault.MetaFault.{MetaFault}
 use Rattle.dk_pqmeta.specs.declared.fault.MetaFault.TheVariants.{Broken, OutOfMemory}

@@ -1,7 +1,7 @@
 -- The tree of the schema, from the flat list of its elements.
-use Rattle.std.specs.Prelude.{ℕ, zero, suc, ◌==◌, nat_le, if◌then◌else◌, ℤ, pos, negsuc, Option, Some, None, option_map, List, [], ◌∷◌, ◌++◌, length}
+use Rattle.std.specs.Prelude.{ℕ, zero, suc, ◌==◌, nat_le, if◌then◌else◌, ℤ, pos, negsuc, Option, Some, None, List, [], ◌∷◌, ◌++◌, length}
 use Rattle.dk_pqmodel.specs.FileSchema.{FileNode, file_node, FileNodes}
-use Rattle.dk_pqmodel.specs.Footer.{◌>=◌, Element, ElementFields, element_of, GroupFields, group_of, FileFields, Footer, each_of, natural, are_new, most_file_levels}
+use Rattle.dk_pqmodel.specs.Footer.{◌>=◌, Element, element_of, group_of, FileFields, Footer, each_of, natural, are_new, most_file_levels}
 use Rattle.dk_pqmeta.specs.View.{nodes_of_list}
 
 -- 0 required, 1 optional, 2 repeated

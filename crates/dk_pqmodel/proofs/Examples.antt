@@ -1,8 +1,8 @@
 -- Worked rows, computed: their triples, their object, their weight.
 use Rattle.std.proofs.Common.{◌≡◌, ℕ, ◌+◌, ◌*◌, [], ◌∷◌, true, Some, None, refl, pos, arith}
 use Rattle.serde_json.specs.Data as json
-use Rattle.serde_json.specs.Data.{member, no_members, item, no_items}
-use Rattle.dk_pqmodel.specs.Shape.{Field, Fields, field, no_fields, one_field}
+use Rattle.serde_json.specs.Data.{member, no_members}
+use Rattle.dk_pqmodel.specs.Shape.{Fields, field, no_fields, one_field}
 use Rattle.dk_pqmodel.specs.Shape as shape
 use Rattle.dk_pqmodel.specs.Datum.{Datum, null, atom, group, list, Cells, no_cells, one_cell, chars, int}
 use Rattle.dk_pqmodel.specs.Triples.{triples}

@@ -1,10 +1,10 @@
 -- What nodes stand for, part by part.
-use Rattle.std.proofs.Common.{◌≡◌, ℕ, zero, suc, ◌+◌, ◌<◌, List, [], ◌∷◌, length, get_or, drop, rules, string_bytes, Box, sym, ap, add-one, arith, Vec, Global}
+use Rattle.std.proofs.Common.{◌≡◌, ℕ, zero, suc, ◌+◌, ◌<◌, List, [], ◌∷◌, length, get_or, drop, rules, string_bytes, Box, sym, ap, add-one, arith, Global}
 use Rattle.dk_pqmodel.specs.Shape.{Shape, Field, field, one_field}
 use Rattle.dk_pqmodel.specs.Shape as shape
 use Rattle.dk_pqmodel.specs.NodeView.{fields_of, field_of, shape_of, shape_step, field_step}
 use Rattle.dk_pqmodel.specs.declared.node.Node.{Node}
-use Rattle.dk_pqmodel.specs.declared.node.NodeKind.{NodeKind, Flag, Int32, Int64, Chars, Group, Map, the_lemmas}
+use Rattle.dk_pqmodel.specs.declared.node.NodeKind.{Flag, Int32, Int64, Chars, Map, the_lemmas}
 use Rattle.dk_pqmodel.specs.declared.node.NodeKind as node
 use Rattle.dk_pqmodel.specs.declared.node.NodeKind.TheFolds.{fold_out-Node}
 
@@ -23,9 +23,6 @@ shape_of-Int64 = search (rules, the_lemmas)
 
 pub shape_of-Chars : shape_of Chars ≡ shape.leaf shape.chars
 shape_of-Chars = search (rules, the_lemmas)
-
-pub shape_of-Group : (v : Vec Node Global) → shape_of (Group v) ≡ shape.group (fields_of v.items)
-shape_of-Group v = search (rules, the_lemmas)
 
 pub shape_of-List : (b : Box Node Global) → shape_of (node.List b) ≡ shape.list (field_of b.value)
 shape_of-List b = search (rules, the_lemmas)

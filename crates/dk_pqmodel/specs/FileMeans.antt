@@ -1,9 +1,9 @@
 -- What a Parquet file means: the rows that it holds of wanted fields, from the rows to the bytes.
-use Rattle.std.specs.Prelude.{◌≡◌, ◌+◌, ℕ, Bool, if◌then◌else◌, pos, Option, Some, None, unwrap_or, List, [], ◌∷◌, ◌++◌, length, map, flat_map, Contains}
+use Rattle.std.specs.Prelude.{◌≡◌, ◌+◌, ℕ, Bool, if◌then◌else◌, pos, Option, Some, None, unwrap_or, List, [], ◌∷◌, ◌++◌, length, flat_map, Contains}
 use Rattle.dk_pqmodel.specs.Shape.{Fields, chars}
 use Rattle.dk_pqmodel.specs.Datum.{Value, Cells, no_cells, one_cell, Column, appended}
 use Rattle.dk_pqmodel.specs.Fits.{AreTriplesOf}
-use Rattle.dk_pqmodel.specs.Laid.{Path, Plan, missing, value, members, elements, entries, Plans, no_plans, one_plan, laid, cuts_of, rows_widened, first_misfit}
+use Rattle.dk_pqmodel.specs.Laid.{Plan, missing, value, members, elements, entries, Plans, no_plans, one_plan, laid, cuts_of, rows_widened, first_misfit}
 use Rattle.dk_pqmodel.specs.Footer.{Chunk, RowGroup, Footer}
 use Rattle.dk_pqmodel.specs.FooterBytes.{IsFramed, SpellsFooter}
 use Rattle.dk_pqmodel.specs.FilePages.{ColumnAt, physical_type, AreData, IsFirst}

@@ -1,5 +1,5 @@
 -- What the pages of a chunk hold: the triples of a column (Apache Parquet, "Data Pages", "Encodings").
-use Rattle.std.specs.Prelude.{◌≡◌, ◌≤◌, ◌<◌, ◌+◌, ◌*◌, ◌^◌, ◌==◌, ◌⊎◌, ◌↔◌, ℕ, Bool, true, false, IsTrue, ℤ, pos, Option, Some, None, List, [], ◌∷◌, ◌++◌, length, map, filter_map, replicate, is_some, slice_get, option_and_then, All}
+use Rattle.std.specs.Prelude.{◌≡◌, ◌≤◌, ◌<◌, ◌+◌, ◌*◌, ◌^◌, ◌==◌, ◌⊎◌, ◌↔◌, ℕ, Bool, IsTrue, ℤ, pos, Option, Some, None, List, [], ◌∷◌, ◌++◌, length, map, filter_map, replicate, is_some, slice_get, option_and_then, All}
 use Rattle.std.specs.Str.{is_utf8}
 use Rattle.dk_grammar.specs.Structs.{Listed, last_under}
 use Rattle.dk_grammar.specs.PageHeaders.{Part, numbers_in, inner_under, SpellsHeader}

@@ -1,10 +1,10 @@
 -- What the footer of a Parquet file says (parquet.thrift, FileMetaData), from the fields of its structs by id.
-use Rattle.std.specs.Prelude.{◌≡◌, ◌≤◌, ◌<◌, ◌==◌, ◌^◌, ◌+◌, ℕ, suc, max, nat_le, nat_lt, int_le, Bool, true, false, ◌&&◌, ◌||◌, not, if◌then◌else◌, IsTrue, ℤ, pos, negsuc, Option, Some, None, option_map, option_and_then, unwrap_or, List, [], ◌∷◌, ◌++◌}
+use Rattle.std.specs.Prelude.{◌≡◌, ◌≤◌, ◌<◌, ◌==◌, ◌^◌, ◌+◌, ℕ, suc, max, nat_le, nat_lt, int_le, Bool, true, false, ◌&&◌, ◌||◌, not, if◌then◌else◌, IsTrue, ℤ, pos, negsuc, Option, Some, None, option_map, option_and_then, List, [], ◌∷◌, ◌++◌}
 use Rattle.std.specs.Cmp.Lexicographic.{pointwise}
 use Rattle.std.specs.Str.{bytes_eq}
 use Rattle.dk_grammar.specs.Structs.{Listed, last_under}
 use Rattle.dk_grammar.specs.Lists.{Either, held_in, others_in}
-use Rattle.dk_pqmodel.specs.FileSchema.{FileNode, file_node, FileNodes, no_nodes, one_node, node_name, repetition_of, children_of}
+use Rattle.dk_pqmodel.specs.FileSchema.{FileNode, file_node, FileNodes, no_nodes, one_node, node_name}
 use Rattle.dk_pqmodel.specs.Laid.{Path}
 
 -- A chunk of a column: its physical type, its codec, how many values it has, nulls among them, and where in the file its first data

@@ -2,7 +2,7 @@
 use Rattle.std.specs.Prelude.{ℕ, ℤ, pos, negsuc, List, []}
 use Rattle.serde_json.specs.Data.{Num, unsigned, negative, Data, boolean, number, string, array, object, Items, no_items, item, Members, no_members, put}
 use Rattle.serde_json.specs.Data as json
-use Rattle.dk_pqmodel.specs.Shape.{Shape, leaf, dictionary, Field, field, Fields, no_fields, one_field, key, root, name_in, shape_in, fields_at, element_at}
+use Rattle.dk_pqmodel.specs.Shape.{Shape, leaf, dictionary, Field, Fields, no_fields, one_field, key, root, name_in, shape_in, fields_at, element_at}
 use Rattle.dk_pqmodel.specs.Shape as shape
 use Rattle.dk_pqmodel.specs.Datum.{Value, flag, int, chars, Datum, null, atom, group, list, Cells, no_cells, one_cell}
 

@@ -1,4 +1,3 @@
 pub mod Agree
 pub mod Sets
-pub mod Steps
 pub mod Walks

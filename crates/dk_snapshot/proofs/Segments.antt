@@ -103,13 +103,6 @@ segment_sized events listing is present ratified version choice segment chooses 
 
 -- ---- the steps to a version, over what a store may tell
 
-pub segment_refused : (told : Option (List Told)) (listing : Catalogued) (limits : Limits) (now : ℤ) (segment : Segment) (refusal : Refusal)
-    → IfSome told (λ events. AreSized (listed_size listing) events segment.steps → Refuses refusal (commits_of events limits.object segment.steps))
-    → IfSome told (λ events. AreSized (listed_size listing) events segment.steps → Refuses refusal (read_of events limits now segment))
-segment_refused None listing limits now segment refusal means = tt
-segment_refused (Some events) listing limits now segment refusal means = λ sized.
-    refused_by_part (state_of (oldest_path segment.steps) now) (λ r. refl) refusal (commits_of events limits.object segment.steps) (means sized)
-
 pub segment_read : {X : Type 0} (view : X → TableState × ℤ) (told : Option (List Told)) (listing : Catalogued) (limits : Limits) (now passed : ℤ) (oldest : List ℕ) (steps : List Step) (segment : Segment) (found : List (List Action)) (result : Result X Refusal)
     → passed ≡ now → steps ≡ segment.steps → oldest ≡ oldest_path steps
     → IfSome told (λ events. AreSized (listed_size listing) events steps → commits_of events limits.object steps ≡ Ok (reverse found))
@@ -149,11 +142,6 @@ choice_opened (Some events) listing limits now passed version choice segment rea
     gives_same (λ (s : Snapshot). s) result (opened_segment events limits passed version segment) (opened_version events limits choice now version)
     (ap (opened_chosen events limits passed version) (sym stands) ∙ ap (λ (n : ℤ). opened_version events limits choice n version) same)
     (subst (λ (r : Result Snapshot Refusal). Gives (λ (s : Snapshot). s) r (opened_segment events limits passed version segment)) (sym is_with) given)
-
--- the refusals of a snapshot are those of what was read
-pub read_err : (version : ℕ) (segment : Segment) (read : Result (TableState × ℤ) Refusal) (result : Result Snapshot Refusal) (refusal : Refusal) → result ≡ snapshot_with version segment read → result ≡ Err refusal → read ≡ Err refusal
-read_err version segment (Ok read) result refusal is_with is = let no : snapshot_with version segment (Ok read) ≡ Err refusal = sym is_with ∙ is in cc
-read_err version segment (Err other) result refusal is_with is = let same : ◌≡◌ {A = Result Snapshot Refusal} (Err other) (Err refusal) = sym is_with ∙ is in cc
 
 pub read_version : (version : ℕ) (segment : Segment) (read : Result (TableState × ℤ) Refusal) (result : Result Snapshot Refusal) → result ≡ snapshot_with version segment read → IfOk result (λ (s : Snapshot). s.version ≡ version)
 read_version version segment (Ok read) result is_with = subst (λ (r : Result Snapshot Refusal). IfOk r (λ (s : Snapshot). s.version ≡ version)) (sym is_with) refl

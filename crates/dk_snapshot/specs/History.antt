@@ -1,5 +1,5 @@
 -- The log in plain words, apart from how it is read: each commit at its version, and none above them.
-use Rattle.std.specs.Prelude.{All, Bool, true, false, [], codes, IfSome, ℕ, ◌≡◌, ◌<◌, ◌≤◌, ◌^◌, ◌+◌, List, length, Option, Some, None, option_and_then, slice_get}
+use Rattle.std.specs.Prelude.{All, [], codes, IfSome, ℕ, ◌≡◌, ◌<◌, ◌≤◌, ◌^◌, ◌+◌, List, length, Option, Some, None, option_and_then, slice_get}
 use Rattle.dk_store.specs.Told.{Told}
 use Rattle.dk_store.specs.Listing.{listing}
 use Rattle.dk_store.specs.Objects.{content}

@@ -114,7 +114,3 @@ pub find-listing : (events : List Told) (folder from name : List ℕ) → list_a
 find-listing events folder from name plain late =
     find-listed_in folder from name plain late (entries (objects events))
     ∙ ap (option_map (λ s. listed_as s name)) (sym (get-entries (objects events) (path_in folder name)) ∙ get-objects events (path_in folder name))
-
--- the object at a path is found among the entries of all objects
-pub object-entries : (events : List Told) (path : List ℕ) → object events path ≡ finite.find path_cmp path (entries (objects events))
-object-entries events path = sym (get-objects events path) ∙ get-entries (objects events) path

@@ -1,5 +1,5 @@
 -- The code's map of ratifications as a finite map: what it answers, what a change to it is, and its entries.
-use Rattle.std.proofs.Common.{◌≡◌, ℕ, ◌<◌, ◌+◌, Bool, true, false, cond, List, [], ◌∷◌, ◌&&◌, map, filter, take, get_or, length, Option, Some, None, option_map, nat_cmp, is_eq, is_lt, refl, sym, ap, ap₂, ◌∙◌, T, subst, Less, arith, Bor}
+use Rattle.std.proofs.Common.{◌≡◌, ℕ, ◌<◌, ◌+◌, Bool, true, false, cond, List, [], ◌∷◌, ◌&&◌, map, filter, Option, Some, None, option_map, nat_cmp, is_eq, is_lt, refl, sym, ap, ap₂, ◌∙◌, T, subst, Less, arith, Bor}
 use Rattle.std.specs.BTreeMap as tree
 use Rattle.std.specs.BTreeMap.{BTreeMap, is_at}
 use Rattle.std.specs.Map.{lookup}
@@ -10,12 +10,7 @@ use Rattle.std.specs.List.Sorted.{IsStrictlySortedBy}
 use Rattle.std.specs.FinMap.{FinMap, get, insert, retain_keys, entries, find, from_sorted, get-from_entries, get-from_sorted, entries-from_sorted, get-insert, get-retain_keys, same_map, nat_cmp-IsAntisymmetric, is_sorted}
 use Rattle.std.specs.FinMap.Entries.{below_all, find-where_key}
 use Rattle.std.proofs.lemmas.Bool.Decides.{nat_tests}
-use Rattle.dk_store.specs.declared.event.Event.{Event}
-use Rattle.dk_store.specs.Told.{Told, Made, Over, Deleted, Ratified, Forgotten}
-use Rattle.dk_store.specs.Standings.{next_ratified, standings}
-use Rattle.dk_store.specs.Settled.{named, named_map, next_after, standings_after}
-use Rattle.dk_store.specs.Views.{newest_first, told_event}
-use Rattle.dk_store.proofs.Newest.{newest_first-more}
+use Rattle.dk_store.specs.Settled.{named, named_map}
 
 Entries : Type 0
 Entries = List (ℕ × Bor (List ℕ))
@@ -78,24 +73,3 @@ entries-named_map es h =
     let t : T (is_sorted nat_cmp (map named es)) = subst T (sym (rising es h)) tt in
     let same : named_map es ≡ from_sorted (map named es) = same_versions _ _ (λ v. get-from_entries nat_cmp_total (map named es) v ∙ sym (get-from_sorted nat_cmp (map named es) v t)) in
     ap entries same ∙ entries-from_sorted nat_cmp (map named es) t
-
--- the ratifications go on by the newest event
-standings-front : (event : Told) (events : List Told) → standings (event ∷ events) ≡ standings_after (standings events) event
-standings-front (Made p bytes stamp) events = refl
-standings-front (Over p bytes stamp) events = refl
-standings-front (Deleted p) events = refl
-standings-front (Ratified version name) events = refl
-standings-front (Forgotten upto) events = refl
-
-pub standings-more : (events : List Event) (i : ℕ) (d : Event) → i < length events → standings (newest_first (take (i + 1) events)) ≡ standings_after (standings (newest_first (take i events))) (told_event (get_or events i d))
-standings-more events i d lt = ap standings (newest_first-more events i d lt) ∙ standings-front (told_event (get_or events i d)) (newest_first (take i events))
-
-next-front : (event : Told) (events : List Told) → next_ratified (event ∷ events) ≡ next_after event (next_ratified events)
-next-front (Made p bytes stamp) events = refl
-next-front (Over p bytes stamp) events = refl
-next-front (Deleted p) events = refl
-next-front (Ratified version name) events = refl
-next-front (Forgotten upto) events = refl
-
-pub next-more : (events : List Event) (i : ℕ) (d : Event) → i < length events → next_ratified (newest_first (take (i + 1) events)) ≡ next_after (told_event (get_or events i d)) (next_ratified (newest_first (take i events)))
-next-more events i d lt = ap next_ratified (newest_first-more events i d lt) ∙ next-front (told_event (get_or events i d)) (newest_first (take i events))

@@ -1,18 +1,11 @@
 -- Events that stand oldest first, told the newest first.
-use Rattle.std.proofs.Common.{◌≡◌, ℕ, ◌+◌, ◌<◌, length, get_or, take, List, [], ◌∷◌, ◌++◌, map, reverse, find, Option, Some, None, Bool, true, false, cond, option_map, bytes_eq, refl, sym, ap, ◌∙◌}
-use Rattle.std.proofs.lemmas.List.{take_more, reverse-append, map-append}
+use Rattle.std.proofs.Common.{◌≡◌, ℕ, ◌+◌, ◌<◌, List, [], ◌∷◌, ◌++◌, map, reverse, find, Option, Some, None, Bool, true, false, cond, option_map, bytes_eq, refl, sym, ap, ◌∙◌}
+use Rattle.std.proofs.lemmas.List.{reverse-append, map-append}
 use Rattle.dk_store.specs.declared.event.Event.{Event}
 use Rattle.dk_store.specs.Told.{Told, Stored, Made, Over, Deleted, Ratified, Forgotten}
 use Rattle.dk_store.specs.Objects.{content, object}
 use Rattle.dk_store.specs.Views.{told_event, newest_first}
 use Rattle.dk_store.specs.Memory.{is_about, bytes_left}
-
--- one more event stands in front
-pub newest_first-push : (events : List Event) (event : Event) → newest_first (events ++ event ∷ []) ≡ told_event event ∷ newest_first events
-newest_first-push events event = ap reverse (map-append told_event events (event ∷ [])) ∙ reverse-append (map told_event events) (told_event event ∷ [])
-
-pub newest_first-more : (events : List Event) (i : ℕ) (d : Event) → i < length events → newest_first (take (i + 1) events) ≡ told_event (get_or events i d) ∷ newest_first (take i events)
-newest_first-more events i d lt = ap newest_first (take_more events i d lt) ∙ newest_first-push (take i events) (get_or events i d)
 
 -- the bytes that an event leaves at its own path, if there is one
 abbrev bytes_of : Option Told → Option (List ℕ)

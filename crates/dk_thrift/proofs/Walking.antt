@@ -17,10 +17,6 @@ pub flaw_stays : {A B : Type 0} (r : Result A Flaw) (f : A → Result B Flaw) �
 flaw_stays (Ok x) f h = cc
 flaw_stays (Err flaw) f h = refl
 
-pub nothing_done : {A : Type 0} (front : Front (List A)) → after [] front ≡ front
-nothing_done (Ok x) = refl
-nothing_done (Err flaw) = refl
-
 under_more : {V : Type 0} (done : Listed V) (id : ℤ) (value : Option V) (more : Listed V) → done ++ under id value more ≡ (done ++ under id value []) ++ more
 under_more done id None more = ap (λ xs. xs ++ more) (sym (append-nil done))
 under_more done id (Some x) more = sym (append_assoc done ((id, x) ∷ []) more)
@@ -29,15 +25,6 @@ one_done : {V : Type 0} (done : Listed V) (id : ℤ) (value : Option V) (front :
     → after done (front >>= λ more. Ok (under id value more.0, more.1)) ≡ after (done ++ under id value []) front
 one_done done id value (Ok more) = ap (λ xs. Ok (xs, more.1)) (under_more done id value more.0)
 one_done done id value (Err flaw) = refl
-
--- the walk begins with nothing done
-pub walk_begins : {V X : Type 0} (meaning : Meaning V) (view : Listed V → X) (n : ℕ) (old : Reading) (x : X) → x ≡ view [] → Walks meaning view n old old x (fields_from meaning n old.last old.rest)
-walk_begins meaning view n old x e = record { done = []; seen = e; left = nothing_done _; size = refl }
-
--- where so many fields were walked along as there are bytes, the bytes have ended
-pub walk_runs_out : {V X : Type 0} (meaning : Meaning V) (view : Listed V → X) (n : ℕ) (old now : Reading) (x : X) (whole : Front (Listed V)) → n ≡ 0 → Walks meaning view n old now x whole → IsErr whole
-walk_runs_out meaning view n old now x whole e w =
-    subst (λ r. IsErr r) w.left (rw e refl)
 
 module _ {V X : Type 0} (meaning : Meaning V) (view : Listed V → X) (n i : ℕ) (old now : Reading) (x : X) (whole : Front (Listed V)) (h : i < n) (w : Walks meaning view (n - i) old now x whole) where
   first : after w.done (field_at now.last now.rest >>= λ y. field_then meaning (fields_from meaning (n - (i + 1))) y.0 y.1) ≡ whole

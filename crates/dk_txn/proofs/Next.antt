@@ -17,7 +17,7 @@ use Rattle.dk_engine.specs.declared.refusal.Refusal.TheVariants as refusals
 use Rattle.dk_snapshot.specs.declared.snapshot.Snapshot.{Snapshot}
 use Rattle.dk_snapshot.specs.Plan.{stands, greatest_below, first_failing, count_from, count_up_to, plan}
 use Rattle.dk_snapshot.specs.Log.{meant, commit_of_object, commit_at, newest_behind, commits_below, commits_planned}
-use Rattle.dk_snapshot.specs.Opened.{with_cut, snapshot_of, version_of}
+use Rattle.dk_snapshot.specs.Opened.{with_cut, version_of}
 use Rattle.dk_snapshot.specs.Opened as opening
 use Rattle.dk_snapshot.specs.Support.{cut_of, first_commit}
 use Rattle.dk_lawful.specs.Managed.{is_managed, asks_for_catalogue}

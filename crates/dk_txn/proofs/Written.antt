@@ -1,5 +1,5 @@
 -- What is written of an attempt, and what its answer says.
-use Rattle.std.proofs.Common.{◌≡◌, ℕ, ℤ, ◌<◌, ◌^◌, List, ◌∷◌, Some, None, inl, refl, ap, sym, subst, ◌∙◌, true≢false}
+use Rattle.std.proofs.Common.{◌≡◌, ℕ, ℤ, ◌<◌, ◌^◌, List, ◌∷◌, Some, None, refl, ap, sym, subst, ◌∙◌, true≢false}
 use Rattle.std.specs.Prelude.{Option, Result, Ok, Err, IfSome, IsNone, is_some}
 use Rattle.std.specs.List.{AllByRecursion}
 use Rattle.dk_store.specs.declared.event.Put.{Put}
@@ -16,7 +16,6 @@ use Rattle.dk_paths.specs.Names.{commit_path}
 use Rattle.dk_paths.specs.Numbers.{id_text}
 use Rattle.dk_engine.specs.declared.refusal.Refusal.{Refusal}
 use Rattle.dk_engine.specs.declared.refusal.Refusal.TheVariants as refusals
-use Rattle.dk_engine.specs.Answers.{Refuses}
 use Rattle.dk_lawful.specs.History.{next_version}
 use Rattle.dk_lawful.specs.Lawful.{Lawful}
 use Rattle.dk_lawful.specs.Rules.{first_broken, IsValidNext}
@@ -24,8 +23,8 @@ use Rattle.dk_lawful.specs.Kept.{IfBoth, KeepsLawful, HistoryAfterPut}
 use Rattle.dk_lawful.proofs.Puts.{put_keeps_lawful, put_adds_commit}
 use Rattle.dk_txn.specs.declared.start.Start.{Start}
 use Rattle.dk_txn.specs.declared.commit.Committed.{Committed}
-use Rattle.dk_txn.specs.Attempt.{unsupported, verdict, own_commit, commit_text, Writing, allowed, if_allowed, attempt_from, attempt}
-use Rattle.dk_txn.specs.Commits.{CommitRefuses, Commits, HistoryAfterCommit, SaysHistory, ComesNext}
+use Rattle.dk_txn.specs.Attempt.{unsupported, verdict, own_commit, commit_text, allowed, if_allowed, attempt_from, attempt}
+use Rattle.dk_txn.specs.Commits.{Commits, HistoryAfterCommit, SaysHistory, ComesNext}
 use Rattle.dk_txn.proofs.Readable.{valid_reads}
 use Rattle.dk_txn.proofs.Next.{attempt_next}
 
@@ -49,13 +48,6 @@ allowed_reads from actions id text u may reads =
     let valid : IsValidNext from.before from.version (own_commit id actions) = no_rule (unsupported from.before.protocol) (first_broken from.before from.version (own_commit id actions)) u may in
     let itself = valid_reads (id_text id) from.before from.version actions valid in
     reads itself.each ∙ ap (λ (rest : List Action). Some (own_info (id_text id) ∷ rest)) itself.written
-
--- what is written from the start that was found is written by the events
-pub attempt_refused : (told : Option (List Told)) (actions : List Action) (now : ℤ) (id : ℕ) (refusal : Refusal) (begun : List Told → Result Start Refusal)
-    → ((r : Refusal) (meant : Result Start Refusal) → Refuses r meant → Refuses r (attempt_from meant actions now id))
-    → IfSome told (λ events. Refuses refusal (begun events)) → IfSome told (λ events. Refuses refusal (attempt_from (begun events) actions now id))
-attempt_refused None actions now id refusal begun hands means = tt
-attempt_refused (Some events) actions now id refusal begun hands means = hands refusal (begun events) means
 
 -- ---- what a put did
 
@@ -100,18 +92,6 @@ failed_history version path bytes text commit old new error at small same failed
 
 -- ---- one commit, by the attempt
 
--- a refusal of the attempt adds nothing
-refuses_commit : (events : List Told) (refusal : Refusal) (meant : Result Writing Refusal) (later : Option (List Told)) → Refuses refusal meant → later ≡ Some events → CommitRefuses refusal meant events later
-refuses_commit events refusals.Store meant later means same = inl same
-refuses_commit events refusals.OutOfMemory meant later means same = same
-refuses_commit events (refusals.Taken path) meant later means same = absurd means
-refuses_commit events refusal meant later means same = (means, same)
-
-pub once_refused : (told later : Option (List Told)) (actions : List Action) (now : ℤ) (id : ℕ) (refusal : Refusal) → later ≡ told
-    → IfSome told (λ events. Refuses refusal (attempt events actions now id)) → IfSome told (λ events. CommitRefuses refusal (attempt events actions now id) events later)
-once_refused None later actions now id refusal same means = tt
-once_refused (Some events) later actions now id refusal same means = refuses_commit events refusal (attempt events actions now id) later means same
-
 pub once_written : (told mid later : Option (List Told)) (actions : List Action) (now passed : ℤ) (id version : ℕ) (text : List ℕ) (result : Result Committed Refusal) → passed ≡ now → mid ≡ told
     → IfSome told (λ events. attempt events actions passed id ≡ Ok (version, text))
     → IfSome mid (λ events. IsNone (object events (commit_path version)) → Commits (Ok (version, text)) events result later)
@@ -155,9 +135,3 @@ once_history told mid later actions now id version text result same means reads 
 pub again : (told : Option (List Told)) (fact : List Told → Type 0) → IfSome told (λ (events : List Told). ⊥) → IfSome told fact
 again None fact never = tt
 again (Some events) fact never = absurd never
-
-pub again_both : (told mid later : Option (List Told)) (fact : List Told → List Told → Type 0) → IfSome told (λ (events : List Told). ⊥) → is_some mid ≡ is_some told → is_some later ≡ is_some mid → IfBoth told later fact
-again_both None None None fact never first second = tt
-again_both None None (Some later) fact never first second = absurd (true≢false second)
-again_both None (Some mid) later fact never first second = absurd (true≢false first)
-again_both (Some events) mid later fact never first second = absurd never

@@ -1,5 +1,4 @@
-use Rattle.std.proofs.Common.{◌≡◌, ℕ, ◌≤◌, List, length, Some, None, sym, ap, subst, ◌∙◌, arith, rules}
-use Rattle.dk_engine.specs.declared.limits.Which.{Which}
+use Rattle.std.proofs.Common.{◌≡◌, ℕ, ◌≤◌, length, None, sym, subst, ◌∙◌, rules}
 use Rattle.dk_cli.specs.Seen.{HasSeen}
 use Rattle.dk_cli.proofs.Scans.{none_behind}
 use Rattle.dk_cli.proofs.Inputs.{left_after, limit_told}

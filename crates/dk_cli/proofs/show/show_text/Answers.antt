@@ -1,7 +1,6 @@
-use Rattle.std.proofs.Common.{rules}
 use Rattle.std.proofs.lemmas.Int.{to_z-of_z}
 use mir.Syntax.{w64}
-use Rattle.dk_cli.proofs.Shown.{show_refused, show_opened}
+use Rattle.dk_cli.proofs.Shown.{show_refused}
 use Rattle.dk_cli.proofs.show.show_text.Goals as goal
 
 pub returns-in-Err-clause-means : goal.returns-in-Err-clause-means

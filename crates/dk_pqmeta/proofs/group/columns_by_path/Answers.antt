@@ -1,10 +1,10 @@
-use Rattle.std.proofs.Common.{rules, ◌≡◌, ◌∷◌, true, false, Some, None, is_some, map, string_bytes, sym, ap, ◌∙◌}
+use Rattle.std.proofs.Common.{rules, ◌≡◌, ◌∷◌, true, false, Some, is_some, map, sym, ap, ◌∙◌}
 use Rattle.std.proofs.lemmas.List.{map-append}
 use Rattle.std.specs.Vec.Iter.{into_iter_items}
 use Rattle.indexmap.proofs.CallerLemmas.{insert_entry-new}
 use Rattle.dk_pqmodel.specs.Footer.{chunk_of, has_path}
 use Rattle.dk_pqmeta.specs.Kept.{chunk_kept}
-use Rattle.dk_pqmeta.specs.View.{column_view, columns_behind}
+use Rattle.dk_pqmeta.specs.View.{column_view}
 use Rattle.dk_pqmeta.proofs.Behind.{columns_go_on, columns_refused, none_is, path_found, same_key}
 use Rattle.dk_pqmeta.proofs.group.columns_by_path.Goals as goal
 

@@ -5,7 +5,7 @@ use Rattle.dk_grammar.specs.Thrift.{field_at}
 use Rattle.dk_thrift.specs.Reading.{Reading}
 use Rattle.dk_thrift.proofs.Passes.{field_id}
 use Rattle.dk_thrift.proofs.Walking.{flaw_stays}
-use Rattle.dk_thrift.proofs.Walking.{header_flaw, value_flaw, walk_ends, walk_goes_on}
+use Rattle.dk_thrift.proofs.Walking.{header_flaw, walk_ends, walk_goes_on}
 use Rattle.dk_pqmeta.proofs.structs.read_fields.Goals as goal
 
 pub returns-in_err-field : goal.returns-in_err-field

@@ -1,9 +1,8 @@
-use Rattle.std.proofs.Common.{rules, ◌≡◌, ◌+◌, ◌<◌, Bool, true, false, not, Some, map, List, ℕ, Bor, drop, length, nat_eq, sym, ap, ◌∙◌, arith}
+use Rattle.std.proofs.Common.{◌≡◌, ◌+◌, ◌<◌, true, false, not, Some, map, List, ℕ, Bor, drop, length, nat_eq, sym, ap, ◌∙◌, arith}
 use Rattle.std.proofs.lemmas.List.{map-append}
 use Rattle.std.specs.Cmp.Lexicographic.{pointwise}
 use Rattle.std.specs.List.{list_any}
 use Rattle.dk_pqmodel.specs.FileSchema.{one_node, node_name}
-use Rattle.dk_pqmodel.specs.Footer.{has_name}
 use Rattle.dk_pqmeta.specs.View.{node_of, nodes_of}
 use Rattle.dk_pqmeta.proofs.Behind.{name_found, name_of_node, new_goes_on, new_refused, nodes_of-drop, not_twice}
 use Rattle.dk_pqmeta.proofs.tree.are_distinct.Goals as goal

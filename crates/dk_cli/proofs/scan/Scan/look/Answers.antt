@@ -1,8 +1,8 @@
 use Rattle.std.proofs.lemmas.List.{take_all}
-use Rattle.std.proofs.Common.{◌≡◌, ℕ, List, [], ◌∷◌, ◌++◌, ◌+◌, take, length, sym, ap, subst, ◌∙◌, refl, arith, rules, Option, Some, None}
+use Rattle.std.proofs.Common.{◌≡◌, ℕ, [], ◌∷◌, ◌++◌, ◌+◌, take, sym, ◌∙◌, rules}
 use Rattle.dk_cli.specs.Input.{passed}
 use Rattle.dk_cli.specs.Seen.{HasSeen}
-use Rattle.dk_cli.proofs.Scans.{one_more, goes_on, stops, seen_more, none_of}
+use Rattle.dk_cli.proofs.Scans.{goes_on, stops, seen_more, none_of}
 use Rattle.dk_cli.proofs.scan.Scan.look.Goals as goal
 
 pub returns-then-is_some-clause-first : goal.returns-then-is_some-clause-first

@@ -1,4 +1,4 @@
-use Rattle.std.proofs.Common.{◌≡◌, true, false, option_map, rules, FitsSigned, Some, pos, ap, sym, ◌∙◌, w16, w64}
+use Rattle.std.proofs.Common.{◌≡◌, true, false, option_map, Some, pos, ap, sym, ◌∙◌, w16}
 use Rattle.std.proofs.lemmas.Int.{to_z-of_z}
 use Rattle.dk_grammar.specs.Structs.{number_meaning}
 use Rattle.dk_grammar.specs.Lists.{held, other, is_held}
