@@ -1,27 +1,14 @@
 """footers.py OURS FOLDER: makes files with footers of many columns and row groups in the folder, and prints how long dk_bench takes to
 read each once, and for each byte of it."""
-import subprocess
 import sys
-import time
+
+from measure import least, varint, whole, write
 
 TIMES = 20
 
 
-def varint(number):
-    out = bytearray()
-    while number >= 128:
-        out.append(128 | number & 127)
-        number >>= 7
-    out.append(number)
-    return bytes(out)
-
-
 def field(step, kind, value=b""):
     return bytes([16 * step + kind]) + value
-
-
-def whole(number):
-    return varint(2 * number)
 
 
 def text(name):
@@ -71,25 +58,12 @@ def file_of(columns, groups):
     return b"PAR1" + footer + len(footer).to_bytes(4, "little") + b"PAR1"
 
 
-def least(command):
-    """The least time of five runs of a program, in seconds."""
-    times = []
-    for _ in range(5):
-        start = time.perf_counter()
-        subprocess.run(command, check=True, stdout=subprocess.DEVNULL)
-        times.append(time.perf_counter() - start)
-    return min(times)
-
-
 def main():
     ours, folder = sys.argv[1:]
     print(f"{'columns':>8} {'groups':>7} {'bytes':>11} {'time':>10} {'a byte':>9}")
     for columns, groups in ((10, 10), (100, 10), (100, 100), (1000, 10), (1000, 100), (10000, 10), (100, 1000)):
-        path = f"{folder}/footer"
         data = file_of(columns, groups)
-        with open(path, "wb") as file:
-            file.write(data)
-        mine = least([ours, "footer", "0", "0", str(TIMES), path]) / TIMES
+        mine = least([ours, "footer", "0", "0", str(TIMES), write(folder, data)]) / TIMES
         print(f"{columns:8} {groups:7} {len(data):11} {mine * 1e3:7.2f} ms {mine / len(data) * 1e9:6.1f} ns")
 
 

@@ -1,21 +1,11 @@
 """pages.py OURS FOLDER: makes files of pages with bodies of many sizes in the folder, and prints how long dk_bench takes to find and split one
 page. What copies nothing takes as long for a page of any size."""
-import subprocess
 import sys
-import time
+
+from measure import least, whole, write
 
 PAGES = 8
 TIMES = 100_000
-
-
-def whole(number):
-    out = bytearray()
-    number *= 2
-    while number >= 128:
-        out.append(128 | number & 127)
-        number >>= 7
-    out.append(number)
-    return bytes(out)
 
 
 def page(size):
@@ -26,23 +16,11 @@ def page(size):
     return b"\x15" + whole(0) + b"\x15" + whole(size) + b"\x15" + whole(size) + b"\x2c" + inner + b"\0" + body
 
 
-def least(command):
-    """The least time of five runs of a program, in seconds."""
-    times = []
-    for _ in range(5):
-        start = time.perf_counter()
-        subprocess.run(command, check=True, stdout=subprocess.DEVNULL)
-        times.append(time.perf_counter() - start)
-    return min(times)
-
-
 def main():
     ours, folder = sys.argv[1:]
     print(f"{'body':>10} {'a page':>10}")
     for size in (100, 10_000, 1_000_000, 8_000_000):
-        path = f"{folder}/pages"
-        with open(path, "wb") as file:
-            file.write(page(size) * PAGES)
+        path = write(folder, page(size) * PAGES)
         once = least([ours, "pages", "0", str(PAGES), "1", path])
         many = least([ours, "pages", "0", str(PAGES), str(TIMES), path])
         print(f"{size:10} {(many - once) / (PAGES * (TIMES - 1)) * 1e9:7.1f} ns")

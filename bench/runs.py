@@ -1,20 +1,11 @@
-"""runs.py OURS PEER FOLDER: makes files of runs in the folder, and prints how long each program takes to decode them once."""
+"""runs.py OURS FOLDER PEER: makes files of runs in the folder, and prints how long each program takes to decode them once."""
 import random
-import subprocess
 import sys
-import time
+
+from measure import least, varint, write
 
 LEVELS = 10_000_000
 TIMES = 10
-
-
-def varint(number):
-    out = bytearray()
-    while number >= 128:
-        out.append(128 | number & 127)
-        number >>= 7
-    out.append(number)
-    return bytes(out)
 
 
 def packed(count, width):
@@ -42,18 +33,8 @@ def mixed(width):
     return bytes(out)
 
 
-def least(command):
-    """The least time of five runs of a program, in seconds."""
-    times = []
-    for _ in range(5):
-        start = time.perf_counter()
-        subprocess.run(command, check=True, stdout=subprocess.DEVNULL)
-        times.append(time.perf_counter() - start)
-    return min(times)
-
-
 def main():
-    ours, peer, folder = sys.argv[1:]
+    ours, folder, peer = sys.argv[1:]
     random.seed(1)
     cases = [(f"one packed run, width {w}", w, packed(LEVELS, w)) for w in (1, 2, 3)]
     cases += [(f"packed runs of 504, width {w}", w, runs_of_504(w)) for w in (1, 2, 3)]
@@ -62,10 +43,7 @@ def main():
     cases += [(f"one packed run, width {w}", w, packed(LEVELS, w)) for w in (12, 20)]
     print(f"{'':38} {'dk_bench':>10} {'Rust':>10} {'Rust / dk_bench':>16}")
     for name, width, runs in cases:
-        path = f"{folder}/runs"
-        with open(path, "wb") as file:
-            file.write(runs)
-        words = ["runs", str(width), str(LEVELS), str(TIMES), path]
+        words = ["runs", str(width), str(LEVELS), str(TIMES), write(folder, runs)]
         mine, theirs = least([ours, *words]) / TIMES, least([peer, *words]) / TIMES
         print(f"{name:38} {mine * 1e3:7.1f} ms {theirs * 1e3:7.1f} ms {theirs / mine:16.2f}")
 

@@ -1,0 +1,30 @@
+#!/bin/sh
+# bench/run.sh WHAT: measures library calls by the proved program dk_bench, and prints the times. WHAT is
+#   footers  reading footers of up to 1,000 columns and 100 row groups, and of 10,000 columns: the time for each byte
+#   pages    finding and splitting pages of many sizes: the time of one page
+#   runs     decoding runs of ten million levels, beside a plain Rust loop: the time of one decoding by each
+# WHAT.py makes the files and runs the programs; where WHAT.rs is there, it is the program beside. Building dk_bench proves what it
+# stands on first.
+set -eu
+here=$(dirname -- "$(readlink -f -- "$0")")
+crate=$here/../crates/dk_bench
+if [ $# -ne 1 ] || [ ! -f "$here/$1.py" ] || [ "$1" = measure ]; then
+    sed -n '2,5s/^# //p' "$0" >&2
+    exit 2
+fi
+work=$(mktemp -d)
+trap 'rm -rf "$work"' EXIT
+
+mkdir -p "$crate/out"
+(cd "$crate" && rt run -- runs 3 10 1 data/runs.bin) >"$crate/out/build.log" 2>&1 || {
+    echo "run.sh: the build failed; see crates/dk_bench/out/build.log" >&2
+    exit 1
+}
+set -- "$1" "$crate/out/dk_bench" "$work"
+if [ -f "$here/$1.rs" ]; then
+    rustc -O -o "$work/peer" "$here/$1.rs"
+    set -- "$@" "$work/peer"
+fi
+what=$1
+shift
+PYTHONDONTWRITEBYTECODE=1 python3 "$here/$what.py" "$@"
