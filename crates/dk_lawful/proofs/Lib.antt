@@ -1,11 +1,13 @@
 pub mod Calls
 pub mod Example
 pub mod Heads
+pub mod Joined
 pub mod Lists
 pub mod Management
 pub mod MoreExamples
 pub mod NextRatified
 pub mod OnTexts
+pub mod OneMeaning
 pub mod Puts
 pub mod ReadLog
 pub mod Sound
@@ -18,4 +20,5 @@ pub mod Structure
 pub mod Unmanaged
 pub mod Validly
 pub mod Ways
+pub mod WholeCheckpoints
 pub mod WholeLog

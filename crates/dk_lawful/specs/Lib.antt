@@ -1,5 +1,8 @@
 pub mod Agree
 pub mod Calls
+pub mod CheckpointLaws
+pub mod CheckpointRows
+pub mod CheckpointSchema
 pub mod Checkpoints
 pub mod Example
 pub mod Floor
@@ -13,3 +16,4 @@ pub mod Permits
 pub mod Present
 pub mod Rules
 pub mod Segments
+pub mod Shares

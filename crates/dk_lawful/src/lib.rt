@@ -2,9 +2,11 @@
 //! of permitted events means, and that nothing that is needed ever goes. All of it is said of events alone.
 #![tactic(auto)]
 
+mod checkpoint_laws;
 mod laws;
 mod segment;
 
+pub use checkpoint_laws::checkpoints_stand;
 pub use laws::{
     calls_keep_the_law, example_goes_on, example_histories, example_is_lawful, forbidden_events,
     history_only_grows, log_is_the_history, needed_stays, next_commit_is_added,
