@@ -4,6 +4,7 @@ pub mod CheckpointLaws
 pub mod CheckpointRows
 pub mod CheckpointSchema
 pub mod Checkpoints
+pub mod Contents
 pub mod Example
 pub mod Floor
 pub mod History
