@@ -1,6 +1,7 @@
 pub mod Calls
 pub mod Example
 pub mod Heads
+pub mod IdsOnce
 pub mod Joined
 pub mod Lists
 pub mod Management
@@ -15,6 +16,7 @@ pub mod SoundDeleted
 pub mod SoundMade
 pub mod SoundOthers
 pub mod Standing
+pub mod StayFit
 pub mod Stays
 pub mod Structure
 pub mod Unmanaged

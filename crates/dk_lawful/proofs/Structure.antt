@@ -20,7 +20,7 @@ pub prefixes_are_lawful : PrefixesAreLawful
 prefixes_are_lawful [] events horizon lawful = lawful
 prefixes_are_lawful (event ∷ newer) events horizon lawful = prefixes_are_lawful newer events horizon lawful.1
 
-agrees_beyond : (state whole : TableState) (horizon greater : ℤ) → horizon ≤ℤ greater → Agree state whole horizon → Agree state whole greater
+pub agrees_beyond : (state whole : TableState) (horizon greater : ℤ) → horizon ≤ℤ greater → Agree state whole horizon → Agree state whole greater
 agrees_beyond state whole horizon greater up agree = record {
   protocol = agree.protocol;
   metadata = agree.metadata;

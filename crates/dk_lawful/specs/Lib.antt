@@ -1,3 +1,4 @@
+pub mod Actors
 pub mod Agree
 pub mod Calls
 pub mod CheckpointLaws
@@ -8,6 +9,7 @@ pub mod Contents
 pub mod Example
 pub mod Floor
 pub mod History
+pub mod Ids
 pub mod Kept
 pub mod Laws
 pub mod Lawful
