@@ -29,8 +29,9 @@ pub fn history_only_grows()
 
 /// On a lawful log a commit that stands means what the history has at its version, and so does the staged commit of
 /// a version that stands ratified. The last version can be read, and none beyond it. While nothing that is needed was
-/// deleted, the log of a table that isn't managed shows the whole history and nothing else (Delta Lake's PROTOCOL.md,
-/// "Delta Log Entries").
+/// deleted, the log of a table that isn't managed shows the whole history and nothing else; and whoever has read a
+/// whole log that leads to such a table has read the history, whatever was deleted (Delta Lake's PROTOCOL.md, "Delta
+/// Log Entries").
 pub fn log_is_the_history()
     ensures commit { StandingCommitIsHistory }
     ensures staged { StagedCommitIsHistory }
