@@ -1,8 +1,8 @@
 -- An id stands at most once, where each event adds it only to a history without it.
-use Rattle.std.proofs.Common.{◌≡◌, ℕ, zero, suc, ◌<◌, ◌≤◌, ◌⊎◌, inl, inr, length, List, [], ◌∷◌, ◌++◌, Option, Some, None, slice_get, refl, sym, ap, subst, ◌∙◌, arith, append-nil}
+use Rattle.std.proofs.Common.{◌≡◌, ℕ, zero, suc, ◌≤◌, ◌⊎◌, inl, inr, length, List, [], ◌∷◌, ◌++◌, Option, Some, None, slice_get, refl, sym, ap, subst, ◌∙◌, arith, append-nil}
 use Rattle.dk_store.specs.Told.{Told}
 use Rattle.dk_lawful.specs.History.{RatifiedCommit, history}
-use Rattle.dk_lawful.specs.Ids.{SaysId, HasId, StandsOnce, AddsId, AddOnce, AddNone, IdsStandOnce, IdsStay, IdsAreNoMore}
+use Rattle.dk_lawful.specs.Ids.{SaysId, HasId, StandsOnce, AddsId, IdsStandOnce, IdsStay, IdsAreNoMore}
 use Rattle.dk_lawful.proofs.Structure.{grows_by_one, commits_stay}
 
 -- what one event makes of the ids at versions: none is new, or one at the end

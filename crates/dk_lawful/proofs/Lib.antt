@@ -1,5 +1,7 @@
 pub mod Calls
+pub mod CheckpointExample
 pub mod Example
+pub mod ForbiddenCheckpoints
 pub mod Heads
 pub mod IdsOnce
 pub mod Joined

@@ -11,7 +11,7 @@ use Rattle.dk_lawful.specs.Checkpoints.{InParquet, HasActions, sidecars_of, Top,
 use Rattle.dk_lawful.specs.CheckpointLaws.{CheckpointMeansOne}
 use Rattle.dk_lawful.proofs.Standing.{held_once}
 
-one_value : {A : Type 0} (found : Option A) (x y : A) → found ≡ Some x → found ≡ Some y → x ≡ y
+pub one_value : {A : Type 0} (found : Option A) (x y : A) → found ≡ Some x → found ≡ Some y → x ≡ y
 one_value found x y is is_other = let both : Some x ≡ Some y = sym is ∙ is_other in cc
 
 module _ (one : MeansOneList) where

@@ -1,11 +1,9 @@
 -- What others do leaves those who are at work fit.
-use Rattle.std.proofs.Common.{◌≡◌, ℕ, ℤ, suc, ◌+◌, ◌<◌, ◌≤◌, ◌≤ℤ◌, ◌⊎◌, inl, inr, length, take, List, [], ◌∷◌, ◌++◌, Option, Some, None, slice_get, refl, sym, ap, subst, ◌∙◌, arith, length-append}
+use Rattle.std.proofs.Common.{◌≡◌, ℕ, ◌+◌, ◌≤◌, inl, inr, length, take, List, [], ◌∷◌, ◌++◌, Option, Some, None, sym, ap, subst, ◌∙◌, arith, length-append}
 use Rattle.std.specs.Prelude.{Contains}
 use Rattle.std.proofs.lemmas.Int.{ints}
 use Rattle.std.proofs.lemmas.List.{map-append, take-append-le}
-use Rattle.dk_model.specs.declared.action.Action.{Action}
 use Rattle.dk_model.specs.State.{fold}
-use Rattle.dk_model.specs.CommitText.{commit_of}
 use Rattle.dk_store.specs.Told.{Told, Made, Over, Deleted, Ratified, Forgotten}
 use Rattle.dk_paths.specs.Numbers.{id_text}
 use Rattle.dk_paths.specs.Places.{Place, Sidecar, Staged}
@@ -13,9 +11,7 @@ use Rattle.dk_lawful.specs.Present.{Holds}
 use Rattle.dk_lawful.specs.History.{RatifiedCommit, history, next_version, commits_of}
 use Rattle.dk_lawful.specs.Rules.{IsValidNext}
 use Rattle.dk_lawful.specs.Agree.{Agree}
-use Rattle.dk_lawful.specs.Checkpoints.{SideMeans}
-use Rattle.dk_lawful.specs.Contents.{sidecar_content}
-use Rattle.dk_lawful.specs.Actors.{OwnStaged, Transaction, commit_by, OwnFits, Job, Writes, LeaveUnwritten, TransactionsStayFit, JobsStayFit, OthersStayFit, GreaterHorizonFits, NobodyFits}
+use Rattle.dk_lawful.specs.Actors.{OwnStaged, Transaction, commit_by, OwnFits, Writes, LeaveUnwritten, TransactionsStayFit, JobsStayFit, OthersStayFit, GreaterHorizonFits, NobodyFits}
 use Rattle.dk_lawful.proofs.IdsOnce.{ids_stay, ids_are_no_more}
 use Rattle.dk_lawful.proofs.Sound.{length_commits, published_within}
 use Rattle.dk_lawful.proofs.SoundOthers.{lawful_is_sound}

@@ -1,6 +1,7 @@
 pub mod Actors
 pub mod Agree
 pub mod Calls
+pub mod CheckpointExample
 pub mod CheckpointLaws
 pub mod CheckpointRows
 pub mod CheckpointSchema
