@@ -1,5 +1,5 @@
 -- The parts of a checkpoint, whoever made each, lead to the whole state together.
-use Rattle.std.proofs.Common.{◌≡◌, ℕ, zero, suc, ℤ, ◌*◌, ◌/◌, ◌≤◌, ◌<ℤ◌, Bool, true, false, cond, List, [], ◌∷◌, ◌++◌, length, take, drop, Option, Some, None, refl, sym, ap, ◌∙◌, arith, if◌then◌else◌}
+use Rattle.std.proofs.Common.{◌≡◌, ℕ, zero, suc, ℤ, ◌*◌, ◌/◌, ◌≤◌, ◌<ℤ◌, Bool, true, false, cond, List, [], ◌∷◌, ◌++◌, length, take, drop, Option, Some, None, refl, sym, ap, subst, ◌∙◌, arith, if◌then◌else◌}
 use Rattle.std.specs.Prelude.{is_some, ◌||◌}
 use Rattle.std.specs.Ordering.{nat_cmp, eq_by_cmp}
 use Rattle.std.specs.Cmp.Lexicographic.{slice_cmp}
@@ -82,13 +82,13 @@ none_in_rest : (same : Bool) (file : AddFile) (found : Option AddFile) → cond 
 none_in_rest true file found none = absurd (let no : ◌≡◌ {A = Option AddFile} (Some file) None = none in cc)
 none_in_rest false file found none = none
 
-none_in_drop : (n : ℕ) (xs : Files) (path : List ℕ) → find (slice_cmp nat_cmp) path xs ≡ None → find (slice_cmp nat_cmp) path (drop n xs) ≡ None
+pub none_in_drop : (n : ℕ) (xs : Files) (path : List ℕ) → find (slice_cmp nat_cmp) path xs ≡ None → find (slice_cmp nat_cmp) path (drop n xs) ≡ None
 none_in_drop zero xs path none = none
 none_in_drop (suc n) [] path none = refl
 none_in_drop (suc n) (x ∷ xs) path none =
     none_in_drop n xs path (none_in_rest (eq_by_cmp (slice_cmp nat_cmp) path x.0) x.1 (find (slice_cmp nat_cmp) path xs) none)
 
-none_in_take : (n : ℕ) (xs : Files) (path : List ℕ) → find (slice_cmp nat_cmp) path xs ≡ None → find (slice_cmp nat_cmp) path (take n xs) ≡ None
+pub none_in_take : (n : ℕ) (xs : Files) (path : List ℕ) → find (slice_cmp nat_cmp) path xs ≡ None → find (slice_cmp nat_cmp) path (take n xs) ≡ None
 none_in_take zero xs path none = refl
 none_in_take (suc n) [] path none = refl
 none_in_take (suc n) (x ∷ xs) path none = by (eq_by_cmp (slice_cmp nat_cmp) path x.0) none (λ rest. none_in_take n xs path rest)
@@ -160,16 +160,13 @@ if_there : {A : Type 0} (found : Option A) → (if is_some found then found else
 if_there None = refl
 if_there (Some x) = refl
 
--- after all of them it is the whole one
-pub all_parts : (state whole : TableState) (parts : ℕ) (horizon : ℤ) → 1 ≤ parts
-    → UpTo state whole (take (files_up_to parts parts (length (files_of whole))) (files_of whole)) horizon → Agree state whole horizon
-all_parts state whole parts horizon some upto = record {
+-- with all files it is the whole one
+pub whole_agrees : (state whole : TableState) (horizon : ℤ) → UpTo state whole (files_of whole) horizon → Agree state whole horizon
+whole_agrees state whole horizon upto = record {
   protocol = upto.protocol;
   metadata = upto.metadata;
   files = same_map nat_list_cmp_total text_order state.files whole.files (λ path.
       upto.sets path
-      ∙ ap (λ files. if has_path files path then get whole.files path else None)
-      (take_all (files_up_to parts parts (length (files_of whole))) (files_of whole) (let all = ends_at_all parts (length (files_of whole)) some in omega arith))
       ∙ ap (λ found. if is_some found then get whole.files path else None) (sym (get-entries whole.files path))
       ∙ if_there (get whole.files path));
   applications = upto.applications;
@@ -177,3 +174,10 @@ all_parts state whole parts horizon some upto = record {
   none_more = upto.none_more;
   unexpired = upto.unexpired;
 }
+
+-- and so after all parts
+pub all_parts : (state whole : TableState) (parts : ℕ) (horizon : ℤ) → 1 ≤ parts
+    → UpTo state whole (take (files_up_to parts parts (length (files_of whole))) (files_of whole)) horizon → Agree state whole horizon
+all_parts state whole parts horizon some upto = whole_agrees state whole horizon
+    (subst (λ files. UpTo state whole files horizon)
+    (take_all (files_up_to parts parts (length (files_of whole))) (files_of whole) (let all = ends_at_all parts (length (files_of whole)) some in omega arith)) upto)

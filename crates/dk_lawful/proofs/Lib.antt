@@ -1,5 +1,7 @@
 pub mod Calls
 pub mod CheckpointExample
+pub mod ContentLaws
+pub mod ContentsStand
 pub mod Example
 pub mod ForbiddenCheckpoints
 pub mod Heads
@@ -26,3 +28,4 @@ pub mod Validly
 pub mod Ways
 pub mod WholeCheckpoints
 pub mod WholeLog
+pub mod Words

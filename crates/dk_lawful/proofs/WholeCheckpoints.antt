@@ -16,7 +16,7 @@ use Rattle.dk_lawful.proofs.Joined.{IsApart, apart_fold, UpTo, first_part, more_
 use Rattle.dk_lawful.proofs.OneMeaning.{checkpoint_means_one}
 use Rattle.dk_lawful.proofs.SoundOthers.{lawful_is_sound}
 
-steps_more : (state : TableState) (actions more : List Action) → steps state (actions ++ more) ≡ steps (steps state actions) more
+pub steps_more : (state : TableState) (actions more : List Action) → steps state (actions ++ more) ≡ steps (steps state actions) more
 steps_more state [] more = refl
 steps_more state (action ∷ actions) more = steps_more (steps state (action ∷ [])) actions more
 

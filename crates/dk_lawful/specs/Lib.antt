@@ -6,6 +6,7 @@ pub mod CheckpointLaws
 pub mod CheckpointRows
 pub mod CheckpointSchema
 pub mod Checkpoints
+pub mod ContentLaws
 pub mod Contents
 pub mod Example
 pub mod Floor

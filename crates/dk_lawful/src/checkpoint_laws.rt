@@ -3,6 +3,7 @@
 ghost use Rattle.std.specs.Prelude.{[], codes, pos, true, ◌∷◌};
 ghost use Rattle.dk_lawful.specs.CheckpointExample.{checkpointing, clearing, lacking_text, naming, naming_text, whole_text};
 ghost use Rattle.dk_lawful.specs.CheckpointLaws.{CheckpointMeansOne, PartsStand, ReadPartsStand, ReadTopsStand, TopsStand};
+ghost use Rattle.dk_lawful.specs.ContentLaws.{ClassicStands, PartHasShare, ShareComposes, SidecarsHaveFiles, StandingComposes, V2SaysVersion, V2Stands};
 ghost use Rattle.dk_lawful.specs.Example.{IsForbidden, example, first_text, managed_text, ratifying, staged_name_1, staging};
 ghost use Rattle.dk_lawful.specs.MoreExamples.{IsLawfulAfter, side_name};
 ghost use Rattle.dk_paths.specs.Names.{commit_path};
@@ -20,6 +21,19 @@ pub fn checkpoints_stand()
     ensures one { CheckpointMeansOne }
     ensures read_parts { ReadPartsStand }
     ensures read_tops { ReadTopsStand }
+{}
+
+/// What is written of a checkpoint of a well kept state leads back to it, but for tombstones up to the cut: as one object,
+/// as parts of which each has its share, and in the form V2 with any number of sidecars. What stands for such a state
+/// stands for the table's, where these agree, up to the greater of the cut and the horizon.
+pub fn contents_stand()
+    ensures classic { ClassicStands }
+    ensures part { PartHasShare }
+    ensures v2 { V2Stands }
+    ensures version { V2SaysVersion }
+    ensures sidecars { SidecarsHaveFiles }
+    ensures stands { StandingComposes }
+    ensures share { ShareComposes }
 {}
 
 /// The example goes on with two checkpoints of the form V2 in JSON, of either version, after a compacted file; then the

@@ -9,7 +9,9 @@ mod laws;
 mod segment;
 
 pub use actor_laws::others_stay_fit;
-pub use checkpoint_laws::{checkpoints_come_and_go, checkpoints_stand, forbidden_checkpoints};
+pub use checkpoint_laws::{
+    checkpoints_come_and_go, checkpoints_stand, contents_stand, forbidden_checkpoints,
+};
 pub use id_laws::ids_stand_once;
 pub use laws::{
     calls_keep_the_law, example_goes_on, example_histories, example_is_lawful, forbidden_events,
