@@ -1,5 +1,5 @@
 -- What is written of a checkpoint stands for the state, and of a part is its share.
-use Rattle.std.proofs.Common.{◌≡◌, ℕ, zero, suc, ℤ, ◌≤◌, ◌≤ℤ◌, Bool, true, false, inl, inr, List, [], ◌∷◌, ◌++◌, map, filter, length, take, drop, Option, Some, None, if◌then◌else◌, refl, sym, ap, ap₂, subst, ◌∙◌, arith, append-nil, append_assoc}
+use Rattle.std.proofs.Common.{◌≡◌, ℕ, zero, suc, ℤ, ◌≤◌, Bool, true, false, inl, inr, List, [], ◌∷◌, ◌++◌, map, filter, length, take, Option, Some, None, if◌then◌else◌, refl, sym, ap, subst, ◌∙◌, arith, append-nil, append_assoc}
 use Rattle.std.specs.Prelude.{is_some}
 use Rattle.std.specs.List.{filter_map, list_all}
 use Rattle.std.specs.Option.{option_to_list}
@@ -17,12 +17,12 @@ use Rattle.dk_model.specs.State.{steps, empty_state}
 use Rattle.dk_model.specs.Texts.{ByText}
 use Rattle.dk_model.specs.WellKept.{IsWellKept}
 use Rattle.dk_lawful.specs.Agree.{Agree}
-use Rattle.dk_lawful.specs.Shares.{files_up_to, cut_of, files_of, has_path, SetsFiles, SetsAllElse}
+use Rattle.dk_lawful.specs.Shares.{files_up_to, cut_of, files_of, has_path, SetsAllElse}
 use Rattle.dk_lawful.specs.Checkpoints.{sidecars_of, version_in, is_file_action}
-use Rattle.dk_lawful.specs.Contents.{heads, live_file, is_later, removal, recorded, configured, adds, removals, named_actions, all_with, has_v2, mark, part_content, sidecar_content, v2_content}
+use Rattle.dk_lawful.specs.Contents.{heads, live_file, is_later, removal, recorded, configured, adds, removals, named_actions, all_with, has_v2, mark, v2_content}
 use Rattle.dk_lawful.specs.ContentLaws.{ClassicStands, PartHasShare, sidecars_content, V2Stands, V2SaysVersion, SidecarsHaveFiles, StandingComposes, ShareComposes}
 use Rattle.dk_lawful.proofs.Words.{AreOf, entries_are_of, drop_is_of, take_is_of}
-use Rattle.dk_lawful.proofs.ContentsStand.{SaysAllElse, sets_files, sets_all_else, says_files, says_all_with, says_first}
+use Rattle.dk_lawful.proofs.ContentsStand.{sets_files, sets_all_else, says_files, says_all_with, says_first}
 use Rattle.dk_lawful.proofs.Joined.{IsApart, UpTo, first_part, more_parts, goes_up, whole_agrees, all_parts, none_in_drop, none_in_take}
 use Rattle.dk_lawful.proofs.WholeCheckpoints.{steps_more}
 

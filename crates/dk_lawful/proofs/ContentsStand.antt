@@ -1,7 +1,7 @@
 -- What is written of a checkpoint leads to the state that it is written of.
-use Rattle.std.proofs.Common.{◌≡◌, ℕ, zero, suc, ℤ, ◌≤◌, ◌≤ℤ◌, ◌<ℤ◌, ◌⊎◌, inl, inr, Bool, true, false, List, [], ◌∷◌, ◌++◌, map, filter, length, take, drop, Option, Some, None, option_map, if◌then◌else◌, refl, sym, ap, ap₂, subst, ◌∙◌, arith, append-nil, append_assoc}
+use Rattle.std.proofs.Common.{◌≡◌, ℕ, ℤ, ◌<ℤ◌, ◌⊎◌, inl, inr, Bool, true, false, List, [], ◌∷◌, ◌++◌, map, filter, Option, Some, None, option_map, if◌then◌else◌, refl, sym, ap, ap₂, subst, ◌∙◌}
 use Rattle.std.specs.Prelude.{is_some, int_lt, IfSome, T}
-use Rattle.std.specs.List.{AllByRecursion, filter_map, list_all}
+use Rattle.std.specs.List.{AllByRecursion}
 use Rattle.std.specs.Option.{option_to_list}
 use Rattle.std.specs.Ordering.{nat_cmp}
 use Rattle.std.specs.Cmp.Lexicographic.{slice_cmp}
@@ -16,13 +16,13 @@ use Rattle.dk_model.specs.declared.action.SidecarRef.{SidecarRef}
 use Rattle.dk_model.specs.declared.state.Application.{Application}
 use Rattle.dk_model.specs.declared.state.TableState.{TableState}
 use Rattle.dk_model.specs.Changes.{Change, live, gone, or_else, is_same_text, change_at, application_at, domain_at, protocol_in, metadata_in, last_some}
-use Rattle.dk_model.specs.State.{steps, empty_state, application_of}
+use Rattle.dk_model.specs.State.{steps, empty_state}
 use Rattle.dk_model.specs.WellKept.{IsWellKept}
 use Rattle.dk_model.proofs.Changes.{file_given, tombstone_given, domain_given, get-files-steps, get-tombstones-steps, get-applications-steps, get-domains-steps, protocol-steps, metadata-steps}
 use Rattle.dk_model.proofs.TextMaps.{text_order}
-use Rattle.dk_lawful.specs.Shares.{cut_of, files_up_to, files_of, has_path, SetsFiles, SetsAllElse}
+use Rattle.dk_lawful.specs.Shares.{has_path, SetsFiles, SetsAllElse}
 use Rattle.dk_lawful.specs.Contents.{heads, live_file, is_later, removal, recorded, configured, adds, removals, named_actions, all_with, mark}
-use Rattle.dk_lawful.proofs.Words.{AreOf, entries_are_of, drop_is_of, take_is_of, filter_is_of, found_filtered, none_after, last_of_both, last_of_none, last_of_entries}
+use Rattle.dk_lawful.proofs.Words.{AreOf, entries_are_of, filter_is_of, found_filtered, none_after, last_of_both, last_of_none, last_of_entries}
 
 -- ---- the last words of each group of actions
 
