@@ -22,7 +22,7 @@ use Rattle.dk_lawful.proofs.Structure.{longer_is}
 use Rattle.dk_lawful.proofs.SoundMade.{adds_itself}
 use Rattle.dk_lawful.proofs.Stays.{next_is_free}
 
-first_means : commit_of first_text ≡ Some first_actions
+pub first_means : commit_of first_text ≡ Some first_actions
 unfolding commits_on_literals first_text
 first_means = refl
 

@@ -8,7 +8,7 @@ use Rattle.dk_model.specs.State.{steps, steps_of_all, empty_state}
 use Rattle.dk_store.specs.Told.{Told, Made, Over, Ratified, Forgotten}
 use Rattle.dk_store.specs.Objects.{object, content}
 use Rattle.dk_paths.specs.Names.{commit_path}
-use Rattle.dk_paths.specs.Places.{Place, Commit_at, Classic, V2, Compacted, Hint, Sidecar, Staged, place_path, IsPlace}
+use Rattle.dk_paths.specs.Places.{Place, Commit_at, Classic, V2, Compacted, Hint, Sidecar, Staged, Other, place_of, place_path, IsPlace}
 use Rattle.dk_paths.specs.Staged.{staged_name}
 use Rattle.dk_paths.proofs.PlaceLaws.{place_of_path}
 use Rattle.dk_lawful.specs.Present.{Holds, AtMostPublished}
@@ -18,14 +18,14 @@ use Rattle.dk_lawful.specs.Permits.{Permits, MayMake, MayOver, MayDelete, Compac
 use Rattle.dk_lawful.specs.Checkpoints.{IsTopOf}
 use Rattle.dk_lawful.specs.Lawful.{Lawful}
 use Rattle.dk_lawful.specs.Example.{first_text, first_actions, second_text, second_actions, first_event, example, IsForbidden}
-use Rattle.dk_lawful.specs.MoreExamples.{IsLawfulAfter, compacting, hinting, staged_event, dropping, side_name, cleaning}
+use Rattle.dk_lawful.specs.MoreExamples.{IsLawfulAfter, compacting, hinting, staged_event, dropping, side_name, cleaning, storing, forgetting}
 use Rattle.dk_lawful.proofs.OnTexts.{commits_on_literals}
 use Rattle.dk_lawful.proofs.Standing.{commit_place, object_none, found_made, made_here}
 use Rattle.dk_lawful.proofs.Example.{example_is_lawful, example_history, example_next, second_means, only_commits}
 use Rattle.dk_lawful.proofs.Stays.{none_beyond_last}
 
 -- a place at which nothing stands
-free_at : (events : List Told) (place : Place) → IsPlace place → ((held : List ℕ) → Holds events place held → ⊥) → IsNone (object events (place_path place))
+pub free_at : (events : List Told) (place : Place) → IsPlace place → ((held : List ℕ) → Holds events place held → ⊥) → IsNone (object events (place_path place))
 free_at events place is none = object_none events (place_path place) (by (content events (place_path place)) refl)
   where
     by : (found : Option (List ℕ)) → content events (place_path place) ≡ found → content events (place_path place) ≡ None
@@ -43,10 +43,10 @@ may_make place bytes stamp horizon is none may = (
   example_is_lawful horizon,
 )
 
-example_published : AtMostPublished example 1
+pub example_published : AtMostPublished example 1
 example_published = (1, (omega arith), (second_text, made_here (first_event ∷ []) (commit_path 1) second_text (pos 1) (Commit_at 1) (commit_place 1 (omega arith))))
 
-example_commits : commits_of (history example) ≡ first_actions ∷ second_actions ∷ []
+pub example_commits : commits_of (history example) ≡ first_actions ∷ second_actions ∷ []
 example_commits = ap commits_of example_history
 
 both_mean : commit_of (first_text ++ second_text) ≡ Some (first_actions ++ second_actions)
@@ -107,12 +107,28 @@ cleaning_is_lawful horizon = (
       | inr before ↦ let only = only_commits place bytes before in no_top_commit place version only.0 top only.1
     ]
 
+data_is_place : IsPlace (Other (codes "a"))
+unfolding place_of
+data_is_place = refl
+
+pub storing_is_lawful : IsLawfulAfter storing
+storing_is_lawful horizon = (
+  subst (MayDelete (Over (codes "a") (codes "y") (pos 3) ∷ Made (codes "a") (codes "x") (pos 2) ∷ example)) (sym data_is_place) tt,
+  (
+    subst MayOver (sym data_is_place) tt,
+    may_make (Other (codes "a")) (codes "x") (pos 2) horizon data_is_place (λ version is. let no : Commit_at version ≡ Other (codes "a") = is in cc) tt,
+  ),
+)
+
+pub forgetting_is_lawful : IsLawfulAfter forgetting
+forgetting_is_lawful horizon = (example_published, example_is_lawful horizon)
+
 -- ---- what may not come
 
-at_place : (place : Place) (bytes : List ℕ) (stamp horizon : ℤ) → IsPlace place → Permits example (Made (place_path place) bytes stamp) horizon → MayMake example place bytes horizon
+pub at_place : (place : Place) (bytes : List ℕ) (stamp horizon : ℤ) → IsPlace place → Permits example (Made (place_path place) bytes stamp) horizon → MayMake example place bytes horizon
 at_place place bytes stamp horizon is may = subst (λ p. MayMake example p bytes horizon) (place_of_path place is) may.1
 
-unpublished : (version : ℕ) → 2 ≤ version → AtMostPublished example version → ⊥
+pub unpublished : (version : ℕ) → 2 ≤ version → AtMostPublished example version → ⊥
 unpublished version most (last, high, at) =
     let below = none_beyond_last example (pos 0) (example_is_lawful (pos 0)) last (inl at) in
     let next = example_next in

@@ -1,4 +1,4 @@
--- Whoever has read a whole log that leads to a table that isn't managed has read the history.
+-- Whoever has read a whole log that leads to a table that isn't managed has read the history, whatever was deleted.
 use Rattle.std.proofs.Common.{◌≡◌, ℕ, ℤ, ◌<◌, ◌≤◌, ◌^◌, inl, inr, length, take, List, Option, Some, None, option_and_then, slice_get, refl, sym, ap, ◌∙◌, arith, true≢false}
 use Rattle.std.proofs.lemmas.Bool.{cases_lt}
 use Rattle.std.proofs.lemmas.Option.{slice_get_within, slice_get_past}
@@ -19,7 +19,7 @@ use Rattle.dk_lawful.specs.Laws.{IsWholeLog, ReadLogIsHistory}
 use Rattle.dk_lawful.proofs.Lists.{same_elements, slice_get-within, slice_get-take, length-take-most}
 use Rattle.dk_lawful.proofs.Standing.{commit_place, commit_small, held_at}
 use Rattle.dk_lawful.proofs.Sound.{length_commits}
-use Rattle.dk_lawful.proofs.Stays.{standing_commit_is_history, kept_from_floor, ratified_is_managed}
+use Rattle.dk_lawful.proofs.Stays.{standing_commit_is_history, needed_stays, complete_is_published, ratified_is_managed}
 
 some_bytes : (found : Option (List ℕ)) (commit : List Action) → option_and_then commit_of found ≡ Some commit → (bytes : List ℕ) × (found ≡ Some bytes) × (commit_of bytes ≡ Some commit)
 some_bytes None commit is = absurd (let no : ◌≡◌ {A = Option (List Action)} None (Some commit) = is in cc)
@@ -59,24 +59,27 @@ read_most events horizon log lawful is = elim (cases_lt (next_version events) (l
   | inr most ↦ most
 ]
 
--- a commit that wasn't read doesn't stand
-not_read : (events : List Told) (log : List (List Action)) → IsWholeLog events log → Present events (Commit_at (length log)) → ⊥
-not_read events log is (held, holds) =
-    let small = commit_small holds.path (length log) holds.is_place in
-    let none = is.last (length log) (omega arith) small in
-    let no : ◌≡◌ {A = Option (List ℕ)} None (Some held) = sym none ∙ held_at events (Commit_at (length log)) held holds in cc
+-- no version from the end of the log on stands
+not_read : (events : List Told) (log : List (List Action)) → IsWholeLog events log → (version : ℕ) → length log ≤ version → Present events (Commit_at version) → ⊥
+not_read events log is version past (held, holds) =
+    let small = commit_small holds.path version holds.is_place in
+    let none = is.last version past small in
+    let no : ◌≡◌ {A = Option (List ℕ)} None (Some held) = sym none ∙ held_at events (Commit_at version) held holds in cc
 
--- were there more, the next would be ratified, so the table would be managed
+-- were there more, the next would stand, be ratified, or lie below a version that stands
 pub read_log_is_history : ReadLogIsHistory
-read_log_is_history events horizon log lawful floor is unmanaged = elim (cases_lt (length log) (next_version events)) [
-  | inl less ↦ elim (kept_from_floor events horizon lawful (length log) 0 less floor) [
+read_log_is_history events horizon log lawful is unmanaged = elim (cases_lt (length log) (next_version events)) [
+  | inl less ↦ elim (needed_stays events horizon lawful (length log) less) [
     | inl readable ↦ elim readable [
-      | inl at ↦ absurd (not_read events log is at)
+      | inl at ↦ absurd (not_read events log is (length log) (omega arith) at)
       | inr (id, stands, at) ↦ absurd (true≢false
           (sym (ratified_is_managed events horizon lawful (length log) (staged_name (length log) id) stands)
           ∙ ap (λ cs. is_managed (fold cs)) (sym (read_front events horizon log lawful is)) ∙ unmanaged))
     ]
-    | inr (checkpoint, low, high, complete) ↦ absurd (omega arith)
+    | inr (checkpoint, above, complete) ↦
+        let published = complete_is_published events horizon lawful checkpoint complete in
+        let past = published.1 in
+        absurd (not_read events log is published.0 (omega arith) published.2)
   ]
   | inr at_least ↦
       let most = read_most events horizon log lawful is in

@@ -46,6 +46,7 @@ pub record TopFine (es : List Told) (place : Place) (version : ℕ) (bytes : Lis
   pub sides : List Action
   pub sides_mean : SidesMean es top.sidecars sides
   pub stands : Stands (top.actions ++ sides) (table_at es version) horizon
+  pub named : (name : List ℕ) → NamesSidecar place bytes name → Present es (Sidecar name)
 
 pub record PartFine (es : List Told) (version part parts : ℕ) (bytes : List ℕ) (horizon : ℤ) : Type 0 where
   pub published : AtMostPublished es version
@@ -119,6 +120,7 @@ TopFine_on es later on place version bytes horizon keep fine = record {
   sides = fine.sides;
   sides_mean = SidesMean_on es later fine.top.sidecars fine.sides (λ name among. keep name (fine.top, fine.means, among)) fine.sides_mean;
   stands = subst (λ cs. Stands (fine.top.actions ++ fine.sides) (fold cs) horizon) (sym (same_front es later on (version + 1) (let below = fine.within in omega arith))) fine.stands;
+  named = λ name names. let side = fine.named name names in (side.0, keep name names side.0 side.1);
 }
 
 pub PartFine_on : (es later : List Told) (on : Onward es later) (version part parts : ℕ) (bytes : List ℕ) (horizon : ℤ)

@@ -231,6 +231,7 @@ top_made es path bytes stamp horizon place version free sound makes =
       sides = makes.sides;
       sides_mean = makes.sides_mean;
       stands = makes.stands;
+      named = makes.named;
     })
 
 by_place : (es : List Told) (path bytes : List ℕ) (stamp horizon : ℤ) (place : Place) → place_of path ≡ place → IsNone (object es path)

@@ -1,7 +1,6 @@
 -- The laws on what stays, from what holds of each lawful log.
 use Rattle.std.proofs.Common.{◌≡◌, ℕ, zero, suc, ℤ, ◌+◌, ◌<◌, ◌≤◌, ◌^◌, false, inl, inr, length, List, [], ◌∷◌, ◌++◌, Option, Some, None, option_and_then, slice_get, refl, sym, ap, subst, ◌∙◌, arith, true≢false, length-append}
 use Rattle.std.proofs.lemmas.Option.{slice_get_within}
-use Rattle.dk_model.specs.declared.action.Action.{Action}
 use Rattle.dk_model.specs.CommitText.{commit_of}
 use Rattle.dk_store.specs.Told.{Told, Made, Over, Deleted, Ratified, Forgotten}
 use Rattle.dk_store.specs.Objects.{content}
@@ -14,7 +13,6 @@ use Rattle.dk_lawful.specs.History.{RatifiedCommit, history, next_version, commi
 use Rattle.dk_lawful.specs.Permits.{MayDelete}
 use Rattle.dk_lawful.specs.Lawful.{Lawful}
 use Rattle.dk_lawful.specs.Floor.{FromFloor, IsBelow}
-use Rattle.dk_lawful.specs.Checkpoints.{Top, TopMeans-one, SidesMean, Among}
 use Rattle.dk_lawful.specs.Laws.{LogShowsHistory, StandingCommitIsHistory, StagedCommitIsHistory, LastIsAvailable, NoneBeyondLast, LastIsPublished, LastPublishedIsOne, NeededStays, KeptFromFloor, LastIsFromFloor, FloorIsUpward, SidecarsStay, RatifiedIsManaged, RatifiedStays, UnpublishedIsStaged, FilesStay, PublishedStays, CompleteIsPublished, NextIsFree}
 use Rattle.dk_lawful.proofs.Lists.{slice_get-map}
 use Rattle.dk_lawful.proofs.Standing.{commit_place, commit_small, held_at, placed, object_none}
@@ -124,16 +122,8 @@ floor_is_upward (Deleted path ∷ events) version greater most floor = (upward_p
 floor_is_upward (Ratified v name ∷ events) version greater most floor = floor_is_upward events version greater most floor
 floor_is_upward (Forgotten upto ∷ events) version greater most floor = floor_is_upward events version greater most floor
 
-sides_stand : (events : List Told) (names : List (List ℕ)) (actions : List Action) (name : List ℕ) → SidesMean events names actions → Among name names → Present events (Sidecar name)
-sides_stand events [] actions name mean among = absurd among
-sides_stand events (first ∷ names) actions name mean (inl same) = subst (λ n. Present events (Sidecar n)) (sym same) (mean.0, mean.3)
-sides_stand events (first ∷ names) actions name mean (inr among) = sides_stand events names mean.2 name mean.5 among
-
 pub sidecars_stay : SidecarsStay
-sidecars_stay events horizon lawful place name (version, is, (bytes, holds, (top, means, among))) =
-    let fine = (lawful_is_sound events horizon lawful).tops place version is bytes holds in
-    let same : top ≡ fine.top = TopMeans-one place bytes top fine.top means fine.means in
-    sides_stand events fine.top.sidecars fine.sides name fine.sides_mean (subst (λ (t : Top). Among name t.sidecars) same among)
+sidecars_stay events horizon lawful place name (version, is, (bytes, holds, names)) = ((lawful_is_sound events horizon lawful).tops place version is bytes holds).named name names
 
 pub ratified_is_managed : RatifiedIsManaged
 ratified_is_managed events horizon lawful version name stands = ((lawful_is_sound events horizon lawful).standings version name stands).managed_before

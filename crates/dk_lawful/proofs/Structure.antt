@@ -1,5 +1,5 @@
 -- Laws of lawful lists and of the history that follow from their shape alone.
-use Rattle.std.proofs.Common.{◌≡◌, ℕ, ◌+◌, ◌≤◌, ℤ, ◌≤ℤ◌, Bool, true, false, ◌&&◌, length, List, [], ◌∷◌, ◌++◌, Option, Some, None, slice_get, refl, sym, ap, ◌∙◌, append_assoc, append-nil, arith, length-append, if◌then◌else◌}
+use Rattle.std.proofs.Common.{◌≡◌, ℕ, zero, suc, ◌+◌, ◌≤◌, ℤ, ◌≤ℤ◌, Bool, true, false, ◌&&◌, length, List, [], ◌∷◌, ◌++◌, Option, Some, None, slice_get, refl, sym, ap, ◌∙◌, append_assoc, append-nil, arith, length-append, if◌then◌else◌}
 use Rattle.std.specs.Prelude.{◌==◌}
 use Rattle.dk_model.specs.declared.action.Action.{Action}
 use Rattle.std.proofs.lemmas.Int.{ints}
@@ -11,7 +11,8 @@ use Rattle.dk_paths.specs.Places.{Place, Commit_at, Classic, Part, V2, Compacted
 use Rattle.dk_lawful.specs.History.{Way, By_file, By_catalogue, RatifiedCommit, goes_on_by, state_of, longer, after_made, staged_commit, history, table_at}
 use Rattle.dk_lawful.specs.Permits.{Permits, MayMake, MakesTop}
 use Rattle.dk_lawful.specs.Agree.{Agree}
-use Rattle.dk_lawful.specs.Checkpoints.{IsShare-beyond}
+use Rattle.dk_lawful.specs.Shares.{HasShare}
+use Rattle.dk_lawful.specs.Checkpoints.{IsShare}
 use Rattle.dk_lawful.specs.Laws.{PrefixesAreLawful, GreaterHorizonIsLawful, HistoryGrows, OneAtATime, CommitsStay}
 use Rattle.dk_lawful.proofs.Lists.{slice_get-append}
 
@@ -19,7 +20,7 @@ pub prefixes_are_lawful : PrefixesAreLawful
 prefixes_are_lawful [] events horizon lawful = lawful
 prefixes_are_lawful (event ∷ newer) events horizon lawful = prefixes_are_lawful newer events horizon lawful.1
 
-agrees_beyond : (state whole : TableState) (horizon greater : ℤ) → horizon ≤ℤ greater → Agree state whole horizon → Agree state whole greater
+pub agrees_beyond : (state whole : TableState) (horizon greater : ℤ) → horizon ≤ℤ greater → Agree state whole horizon → Agree state whole greater
 agrees_beyond state whole horizon greater up agree = record {
   protocol = agree.protocol;
   metadata = agree.metadata;
@@ -39,6 +40,30 @@ top_beyond events place version bytes horizon greater up makes = record {
   sides = makes.sides;
   sides_mean = makes.sides_mean;
   stands = agrees_beyond (steps empty_state (makes.top.actions ++ makes.sides)) (table_at events version) horizon greater up makes.stands;
+  named = makes.named;
+}
+
+share_beyond : (actions : List Action) (state : TableState) (part parts : ℕ) (horizon greater : ℤ) → horizon ≤ℤ greater
+    → HasShare actions state part parts horizon → HasShare actions state part parts greater
+share_beyond actions state zero parts horizon greater up share = share
+share_beyond actions state (suc zero) parts horizon greater up share = record {
+  sets = share.sets;
+  protocol = share.protocol;
+  metadata = share.metadata;
+  applications = share.applications;
+  domains = share.domains;
+  none_more = share.none_more;
+  unexpired = λ path time is above. share.unexpired path time is (omega (arith, ints));
+}
+share_beyond actions state (suc (suc before)) parts horizon greater up share = share
+
+part_beyond : (bytes : List ℕ) (state : TableState) (part parts : ℕ) (horizon greater : ℤ) → horizon ≤ℤ greater
+    → IsShare bytes state part parts horizon → IsShare bytes state part parts greater
+part_beyond bytes state part parts horizon greater up part_is = record {
+  actions = part_is.actions;
+  means = part_is.means;
+  alone = part_is.alone;
+  share = share_beyond part_is.actions state part parts horizon greater up part_is.share;
 }
 
 may_make_beyond : (events : List Told) (place : Place) (bytes : List ℕ) (horizon greater : ℤ) → horizon ≤ℤ greater → MayMake events place bytes horizon → MayMake events place bytes greater
@@ -46,7 +71,7 @@ may_make_beyond events (Commit_at version) bytes horizon greater up may = may
 may_make_beyond events (Classic version) bytes horizon greater up may = top_beyond events (Classic version) version bytes horizon greater up may
 may_make_beyond events (V2 version id json) bytes horizon greater up may = top_beyond events (V2 version id json) version bytes horizon greater up may
 may_make_beyond events (Part version part parts) bytes horizon greater up may =
-    record { published = may.published; share = IsShare-beyond bytes (table_at events version) part parts horizon greater up may.share }
+    record { published = may.published; share = part_beyond bytes (table_at events version) part parts horizon greater up may.share }
 may_make_beyond events (Compacted first last) bytes horizon greater up may = may
 may_make_beyond events Hint bytes horizon greater up may = may
 may_make_beyond events (Sidecar name) bytes horizon greater up may = may

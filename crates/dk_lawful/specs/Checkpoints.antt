@@ -1,36 +1,97 @@
--- What the objects of checkpoints mean (Delta Lake's PROTOCOL.md, "Checkpoints", "V2 Spec", "Sidecar Files"). No such object is read so
--- far, so these meanings are empty, and closed: what rests on them holds of each meaning that gives an object at most one value.
-use Rattle.std.specs.Prelude.{◌≡◌, ℕ, ℤ, ◌≤ℤ◌, ◌⊎◌, List, [], ◌∷◌, ◌++◌}
+-- What the objects of checkpoints mean (Delta Lake's PROTOCOL.md, "Checkpoints", "V2 Spec", "Sidecar File Information").
+use Rattle.std.specs.Prelude.{◌≡◌, ℕ, zero, suc, ℤ, Bool, true, false, ◌&&◌, ◌==◌, ◌⊎◌, List, [], ◌∷◌, ◌++◌, Option, Some, None, option_map, option_and_then, if◌then◌else◌}
+use Rattle.std.specs.List.{list_any, list_all, filter_map}
+use Rattle.std.specs.Str.{is_utf8}
+use Rattle.percent_encoding.specs.Percent.{percent_decode}
+use Rattle.dk_pqmodel.specs.Datum.{Cells}
+use Rattle.dk_pqmodel.specs.FileMeans.{FileMeans}
 use Rattle.dk_model.specs.declared.action.Action.{Action}
+use Rattle.dk_model.specs.declared.action.Action.TheVariants as action
 use Rattle.dk_model.specs.declared.state.TableState.{TableState}
+use Rattle.dk_model.specs.CommitText.{commit_of}
 use Rattle.dk_store.specs.Told.{Told}
-use Rattle.dk_paths.specs.Places.{Place, Classic, V2, Sidecar}
+use Rattle.dk_paths.specs.Places.{Place, Classic, Part, V2, Sidecar, is_sidecar_name}
 use Rattle.dk_lawful.specs.Present.{Holds}
+use Rattle.dk_lawful.specs.CheckpointSchema.{read_fields}
+use Rattle.dk_lawful.specs.CheckpointRows.{actions_of_rows}
+use Rattle.dk_lawful.specs.Shares.{HasShare}
 
--- what the one object of a checkpoint has: actions of its own, and the names of sidecars
+-- ---- the actions of an object
+
+-- the rows of a Parquet file, read as actions
+pub record InParquet (bytes : List ℕ) (actions : List Action) : Type 0 where
+  pub rows : Cells
+  pub means : FileMeans read_fields bytes rows
+  pub read : actions_of_rows rows ≡ Some actions
+
+-- an object in JSON is the text of its actions
+abbrev pub HasActions : Bool → List ℕ → List Action → Type 0
+HasActions true bytes actions = commit_of bytes ≡ Some actions
+HasActions false bytes actions = InParquet bytes actions
+
+-- ---- the sidecars that actions name
+
+-- what follows the last slash
+abbrev pub last_name : List ℕ → List ℕ
+last_name [] = []
+last_name (byte ∷ rest) = if list_any (λ b. b == 47) (byte ∷ rest) then last_name rest else byte ∷ rest
+
+-- a name in the folder of sidecars, if these bytes are one
+abbrev pub sidecar_named : List ℕ → Option (List ℕ)
+sidecar_named name = if is_utf8 name && is_sidecar_name name then Some name else None
+
+-- the name of the sidecar that a path names: what follows its last slash, with escapes replaced
+unfoldable pub sidecar_of_path : List ℕ → Option (List ℕ)
+sidecar_of_path path = sidecar_named (percent_decode (last_name path))
+
+-- a name before those after it
+abbrev pub with_name : Option (List ℕ) → Option (List (List ℕ)) → Option (List (List ℕ))
+with_name name names = option_and_then (λ n. option_map (λ ns. n ∷ ns) names) name
+
+-- the names of the sidecars, in order; none where a path names none
+abbrev pub sidecars_of : List Action → Option (List (List ℕ))
+sidecars_of [] = Some []
+sidecars_of (action.Sidecar reference ∷ actions) = with_name (sidecar_of_path reference.path) (sidecars_of actions)
+sidecars_of (_ ∷ actions) = sidecars_of actions
+
+-- ---- an object of a checkpoint
+
+-- what it has: actions of its own, and the names of sidecars
 pub record Top : Type 0 where
   pub actions : List Action
   pub sidecars : List (List ℕ)
 
--- the one object of a checkpoint, at its place; at that of a V2 checkpoint only with the version of the name
-pub TopMeans : Place → List ℕ → Top → Type 0
-TopMeans place bytes top = ⊥
+pub record HasTop (json : Bool) (bytes : List ℕ) (top : Top) : Type 0 where
+  pub means : HasActions json bytes top.actions
+  pub named : sidecars_of top.actions ≡ Some top.sidecars
 
-pub TopMeans-one : (place : Place) (bytes : List ℕ) (top other : Top) → TopMeans place bytes top → TopMeans place bytes other → top ≡ other
-unfolding TopMeans
-TopMeans-one place bytes top other means means_other = absurd means
+-- the versions that are written in a checkpoint of the form V2
+abbrev pub version_in : Action → Option ℕ
+version_in (action.CheckpointMeta meta) = Some meta.version
+version_in _ = None
 
--- a sidecar, with actions on files alone
-pub SideMeans : List ℕ → List Action → Type 0
-SideMeans bytes actions = ⊥
+-- the object at its place; at a name of the form V2 it has exactly one version, that of the name
+abbrev pub TopMeans : Place → List ℕ → Top → Type 0
+TopMeans (Classic version) bytes top = HasTop false bytes top
+TopMeans (V2 version id json) bytes top = HasTop json bytes top × (filter_map version_in top.actions ≡ version ∷ [])
+TopMeans (Part version part parts) bytes top = HasTop false bytes top
+TopMeans _ bytes top = ⊥
+
+-- a sidecar, in Parquet, with actions on files alone
+abbrev pub is_file_action : Action → Bool
+is_file_action (action.Add file) = true
+is_file_action (action.Remove file) = true
+is_file_action _ = false
+
+abbrev pub SideMeans : List ℕ → List Action → Type 0
+SideMeans bytes actions = InParquet bytes actions × (list_all is_file_action actions ≡ true)
 
 -- a part of a checkpoint, read alone: it names no sidecar, and its actions are its share of the state, up to the horizon
-pub IsShare : (bytes : List ℕ) → (state : TableState) → (part parts : ℕ) → (horizon : ℤ) → Type 0
-IsShare bytes state part parts horizon = ⊥
-
-pub IsShare-beyond : (bytes : List ℕ) (state : TableState) (part parts : ℕ) (horizon greater : ℤ) → horizon ≤ℤ greater → IsShare bytes state part parts horizon → IsShare bytes state part parts greater
-unfolding IsShare
-IsShare-beyond bytes state part parts horizon greater up share = absurd share
+pub record IsShare (bytes : List ℕ) (state : TableState) (part parts : ℕ) (horizon : ℤ) : Type 0 where
+  pub actions : List Action
+  pub means : InParquet bytes actions
+  pub alone : sidecars_of actions ≡ Some []
+  pub share : HasShare actions state part parts horizon
 
 -- the place is that of a checkpoint of this version that is one object
 abbrev pub IsTopOf : Place → ℕ → Type 0
@@ -55,3 +116,32 @@ NamesSidecar place bytes name = (top : Top) × TopMeans place bytes top × Among
 -- an object that stands at this place names it
 abbrev pub Names : List Told → Place → List ℕ → Type 0
 Names events place name = (version : ℕ) × IsTopOf place version × ((bytes : List ℕ) × Holds events place bytes × NamesSidecar place bytes name)
+
+-- ---- a whole checkpoint
+
+-- one object, or parts
+pub data Checkpoint : Type 0 where
+  in_one : (place : Place) → Checkpoint
+  in_parts : (version parts : ℕ) → Checkpoint
+
+abbrev pub ObjectMeans : List Told → Place → Top → Type 0
+ObjectMeans events place top = (bytes : List ℕ) × Holds events place bytes × TopMeans place bytes top
+
+-- the actions of the parts up to one, in order, and the sidecars that they name
+abbrev pub PartsMean : List Told → ℕ → ℕ → ℕ → Top → Type 0
+PartsMean events version parts zero whole = (whole.actions ≡ []) × (whole.sidecars ≡ [])
+PartsMean events version parts (suc before) whole =
+    (front : Top) × (own : Top) × PartsMean events version parts before front × ObjectMeans events (Part version (suc before) parts) own
+    × (whole.actions ≡ front.actions ++ own.actions) × (whole.sidecars ≡ front.sidecars ++ own.sidecars)
+
+abbrev pub ObjectsMean : List Told → Checkpoint → Top → Type 0
+ObjectsMean events (in_one place) top = ObjectMeans events place top
+ObjectsMean events (in_parts version parts) top = PartsMean events version parts parts top
+
+-- A checkpoint means the actions of its object, or of its parts from the first on, and then those of each sidecar that they name.
+pub record CheckpointMeans (events : List Told) (checkpoint : Checkpoint) (actions : List Action) : Type 0 where
+  pub top : Top
+  pub means : ObjectsMean events checkpoint top
+  pub sides : List Action
+  pub sides_mean : SidesMean events top.sidecars sides
+  pub all : actions ≡ top.actions ++ sides

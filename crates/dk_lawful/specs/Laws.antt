@@ -63,9 +63,9 @@ LogShowsHistory = (events : List Told) (horizon : ℤ) → Lawful events horizon
 abbrev pub WholeLogIsOne : Type 0
 WholeLogIsOne = (events : List Told) (log other : List (List Action)) → IsWholeLog events log → IsWholeLog events other → log ≡ other
 
--- While nothing that is needed was deleted: whoever has read a whole log, and it leads to a table that isn't managed, has read the history.
+-- Whoever has read a whole log, and it leads to a table that isn't managed, has read the history, whatever was deleted.
 abbrev pub ReadLogIsHistory : Type 0
-ReadLogIsHistory = (events : List Told) (horizon : ℤ) (log : List (List Action)) → Lawful events horizon → FromFloor events 0 → IsWholeLog events log
+ReadLogIsHistory = (events : List Told) (horizon : ℤ) (log : List (List Action)) → Lawful events horizon → IsWholeLog events log
     → is_managed (fold log) ≡ false → log ≡ commits_of (history events)
 
 -- from version 0 on the table has a protocol and metadata

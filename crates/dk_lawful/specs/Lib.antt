@@ -1,9 +1,17 @@
+pub mod Actors
 pub mod Agree
 pub mod Calls
+pub mod CheckpointExample
+pub mod CheckpointLaws
+pub mod CheckpointRows
+pub mod CheckpointSchema
 pub mod Checkpoints
+pub mod ContentLaws
+pub mod Contents
 pub mod Example
 pub mod Floor
 pub mod History
+pub mod Ids
 pub mod Kept
 pub mod Laws
 pub mod Lawful
@@ -13,3 +21,4 @@ pub mod Permits
 pub mod Present
 pub mod Rules
 pub mod Segments
+pub mod Shares

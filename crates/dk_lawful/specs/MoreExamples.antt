@@ -1,6 +1,6 @@
 -- The example with events of the other kinds.
 use Rattle.std.specs.Prelude.{ℕ, ℤ, pos, List, ◌∷◌, ◌++◌, codes}
-use Rattle.dk_store.specs.Told.{Told, Made, Over, Deleted}
+use Rattle.dk_store.specs.Told.{Told, Made, Over, Deleted, Forgotten}
 use Rattle.dk_paths.specs.Places.{Compacted, Hint, Sidecar, Staged, place_path}
 use Rattle.dk_lawful.specs.Lawful.{Lawful}
 use Rattle.dk_lawful.specs.Example.{first_text, second_text, example}
@@ -30,3 +30,11 @@ side_name = codes "s.parquet"
 
 abbrev pub cleaning : List Told → List Told
 cleaning events = Deleted (place_path (Sidecar side_name)) ∷ Made (place_path (Sidecar side_name)) (codes "s") (pos 2) ∷ events
+
+-- a data file, made, written over and deleted
+abbrev pub storing : List Told → List Told
+storing events = Deleted (codes "a") ∷ Over (codes "a") (codes "y") (pos 3) ∷ Made (codes "a") (codes "x") (pos 2) ∷ events
+
+-- what stands ratified up to a published version is forgotten, here nothing
+abbrev pub forgetting : List Told → List Told
+forgetting events = Forgotten 1 ∷ events

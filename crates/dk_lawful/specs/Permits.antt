@@ -8,12 +8,12 @@ use Rattle.dk_store.specs.Objects.{object}
 use Rattle.dk_store.specs.Standings.{standing}
 use Rattle.dk_paths.specs.Places.{Place, Commit_at, Classic, Part, V2, Compacted, Hint, Sidecar, Staged, Other, place_of}
 use Rattle.dk_paths.specs.Staged.{staged_name}
-use Rattle.dk_lawful.specs.Present.{Holds, IsLastPublished, AtMostPublished, staged_bytes, Complete, HasAbove}
+use Rattle.dk_lawful.specs.Present.{Holds, Present, IsLastPublished, AtMostPublished, staged_bytes, Complete, HasAbove}
 use Rattle.dk_lawful.specs.Managed.{is_managed}
 use Rattle.dk_lawful.specs.History.{history, commits_of, table, table_at, next_version}
 use Rattle.dk_lawful.specs.Rules.{IsValidNext}
 use Rattle.dk_lawful.specs.Agree.{Stands, SumsCommits}
-use Rattle.dk_lawful.specs.Checkpoints.{Top, TopMeans, SidesMean, IsShare, Names}
+use Rattle.dk_lawful.specs.Checkpoints.{Top, TopMeans, SidesMean, IsShare, NamesSidecar, Names}
 
 -- ---- a commit by file
 
@@ -52,7 +52,7 @@ pub record Backfills (events : List Told) (version : ℕ) (bytes : List ℕ) : T
 
 -- ---- checkpoints and compacted files
 
--- the one object of a checkpoint: its sidecars stand, and all its actions stand for the state at its version
+-- the one object of a checkpoint: all sidecars that it names stand, and all its actions stand for the state at its version
 pub record MakesTop (events : List Told) (place : Place) (version : ℕ) (bytes : List ℕ) (horizon : ℤ) : Type 0 where
   pub published : AtMostPublished events version
   pub top : Top
@@ -60,6 +60,7 @@ pub record MakesTop (events : List Told) (place : Place) (version : ℕ) (bytes 
   pub sides : List Action
   pub sides_mean : SidesMean events top.sidecars sides
   pub stands : Stands (top.actions ++ sides) (table_at events version) horizon
+  pub named : (name : List ℕ) → NamesSidecar place bytes name → Present events (Sidecar name)
 
 -- a part of a checkpoint has its share of the state, whoever makes the others
 pub record MakesPart (events : List Told) (version part parts : ℕ) (bytes : List ℕ) (horizon : ℤ) : Type 0 where

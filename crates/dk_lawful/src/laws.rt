@@ -5,7 +5,7 @@ ghost use Rattle.dk_lawful.specs.Calls.{DeleteKeepsLawful, ForgetKeepsLawful, Pu
 ghost use Rattle.dk_lawful.specs.Example.{ExampleHistory, ExampleIsLawful, IsForbidden, example, first_text, listing_text, managed_actions, managed_text, ratifying, second_actions, second_text, shrinking_text, staging, upgrading_text};
 ghost use Rattle.dk_lawful.specs.History.{by_catalogue, by_file, history};
 ghost use Rattle.dk_lawful.specs.Laws.{CommitsStay, CompleteIsPublished, EachCameItsWay, FilesStay, FloorIsUpward, GreaterHorizonIsLawful, HistoryGrows, KeptFromFloor, LastIsAvailable, LastIsFromFloor, LastIsPublished, LastPublishedIsOne, LogShowsHistory, ManagementStays, NeededStays, NextIsFree, NextIsRatifiedNext, NoneBeyondLast, OneAtATime, PrefixesAreLawful, PublishedStays, PutAddsCommit, PutKeepsLawful, PutLeavesFloor, RatifiedIsManaged, RatifiedStays, ReadLogIsHistory, SidecarsStay, StagedCommitIsHistory, StandingCommitIsHistory, TableIsWhole, TakenAddsNothing, UnpublishedIsStaged, WholeLogIsOne, WriterOneIsUnmanaged};
-ghost use Rattle.dk_lawful.specs.MoreExamples.{IsLawfulAfter, cleaning, compacting, dropping, hinting, staged_event};
+ghost use Rattle.dk_lawful.specs.MoreExamples.{IsLawfulAfter, cleaning, compacting, dropping, forgetting, hinting, staged_event, storing};
 ghost use Rattle.dk_paths.specs.Names.{commit_path};
 ghost use Rattle.dk_paths.specs.Places.{Compacted, Staged, place_path};
 ghost use Rattle.dk_paths.specs.Staged.{staged_name};
@@ -29,8 +29,9 @@ pub fn history_only_grows()
 
 /// On a lawful log a commit that stands means what the history has at its version, and so does the staged commit of
 /// a version that stands ratified. The last version can be read, and none beyond it. While nothing that is needed was
-/// deleted, the log of a table that isn't managed shows the whole history and nothing else (Delta Lake's PROTOCOL.md,
-/// "Delta Log Entries").
+/// deleted, the log of a table that isn't managed shows the whole history and nothing else; and whoever has read a
+/// whole log that leads to such a table has read the history, whatever was deleted (Delta Lake's PROTOCOL.md, "Delta
+/// Log Entries").
 pub fn log_is_the_history()
     ensures commit { StandingCommitIsHistory }
     ensures staged { StagedCommitIsHistory }
@@ -123,6 +124,8 @@ pub fn example_goes_on()
     ensures hinting { IsLawfulAfter hinting }
     ensures dropping { IsLawfulAfter dropping }
     ensures cleaning { IsLawfulAfter cleaning }
+    ensures storing { IsLawfulAfter storing }
+    ensures forgetting { IsLawfulAfter forgetting }
 {}
 
 /// For each condition on a commit an event that it forbids, and some of other kinds.

@@ -2,9 +2,17 @@
 //! of permitted events means, and that nothing that is needed ever goes. All of it is said of events alone.
 #![tactic(auto)]
 
+mod actor_laws;
+mod checkpoint_laws;
+mod id_laws;
 mod laws;
 mod segment;
 
+pub use actor_laws::others_stay_fit;
+pub use checkpoint_laws::{
+    checkpoints_come_and_go, checkpoints_stand, contents_stand, forbidden_checkpoints,
+};
+pub use id_laws::ids_stand_once;
 pub use laws::{
     calls_keep_the_law, example_goes_on, example_histories, example_is_lawful, forbidden_events,
     history_only_grows, log_is_the_history, needed_stays, next_commit_is_added,

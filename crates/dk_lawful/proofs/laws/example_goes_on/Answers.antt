@@ -13,3 +13,9 @@ returns-clause-dropping c = more.dropping_is_lawful
 
 pub returns-clause-cleaning : goal.returns-clause-cleaning
 returns-clause-cleaning c = more.cleaning_is_lawful
+
+pub returns-clause-storing : goal.returns-clause-storing
+returns-clause-storing c = more.storing_is_lawful
+
+pub returns-clause-forgetting : goal.returns-clause-forgetting
+returns-clause-forgetting c = more.forgetting_is_lawful

@@ -1,0 +1,18 @@
+-- The laws are lemmas.
+use Rattle.dk_lawful.proofs.StayFit as fit
+use Rattle.dk_lawful.proofs.actor_laws.others_stay_fit.Goals as goal
+
+pub returns-clause-transactions : goal.returns-clause-transactions
+returns-clause-transactions c = fit.transactions_stay_fit
+
+pub returns-clause-jobs : goal.returns-clause-jobs
+returns-clause-jobs c = fit.jobs_stay_fit
+
+pub returns-clause-all : goal.returns-clause-all
+returns-clause-all c = fit.others_stay_fit
+
+pub returns-clause-horizon : goal.returns-clause-horizon
+returns-clause-horizon c = fit.greater_horizon_fits
+
+pub returns-clause-start : goal.returns-clause-start
+returns-clause-start c = fit.nobody_fits

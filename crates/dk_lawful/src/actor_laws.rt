@@ -1,0 +1,15 @@
+//! The law of those who are at work on a table. The function does nothing when it runs.
+
+ghost use Rattle.dk_lawful.specs.Actors.{GreaterHorizonFits, JobsStayFit, NobodyFits, OthersStayFit, TransactionsStayFit};
+
+/// What others do on a lawful log leaves a transaction fit, and a job that makes a checkpoint: what they opened still
+/// agrees with the history, an id stands once and after its snapshot, an answered version has it, and what was
+/// recorded still means what was written, where it stands. So all that are at work stay fit, also at a greater horizon,
+/// and nobody being at work is a start.
+pub fn others_stay_fit()
+    ensures transactions { TransactionsStayFit }
+    ensures jobs { JobsStayFit }
+    ensures all { OthersStayFit }
+    ensures horizon { GreaterHorizonFits }
+    ensures start { NobodyFits }
+{}
