@@ -1,0 +1,4 @@
+pub mod Names
+pub mod InForce
+pub mod Invariants
+pub mod Support

@@ -1,0 +1,38 @@
+-- The features whose tables are read and written, by their names (Delta Lake's PROTOCOL.md, "Valid Feature Names in Table Features").
+-- Those whose names stand in neither list below aren't known.
+use Rattle.std.specs.Prelude.{ℕ, List, [], ◌∷◌, Bool, codes}
+use Rattle.std.specs.List.{list_any}
+use Rattle.std.specs.Str.{bytes_eq}
+
+abbrev pub append_only : List ℕ
+append_only = codes "appendOnly"
+
+abbrev pub invariants : List ℕ
+invariants = codes "invariants"
+
+abbrev pub check_constraints : List ℕ
+check_constraints = codes "checkConstraints"
+
+abbrev pub change_data_feed : List ℕ
+change_data_feed = codes "changeDataFeed"
+
+abbrev pub generated_columns : List ℕ
+generated_columns = codes "generatedColumns"
+
+abbrev pub column_mapping : List ℕ
+column_mapping = codes "columnMapping"
+
+abbrev pub identity_columns : List ℕ
+identity_columns = codes "identityColumns"
+
+-- a table with such a feature is read and written
+abbrev pub both : List (List ℕ)
+both = append_only ∷ codes "domainMetadata" ∷ codes "timestampNtz" ∷ codes "v2Checkpoint" ∷ codes "vacuumProtocolCheck" ∷ []
+
+-- a table with such a feature is read; it isn't written, but for one with invariants whose schema has none
+abbrev pub reading_alone : List (List ℕ)
+reading_alone = invariants ∷ check_constraints ∷ change_data_feed ∷ generated_columns ∷ column_mapping ∷ identity_columns ∷ codes "inCommitTimestamp"
+    ∷ codes "typeWidening" ∷ codes "rowTracking" ∷ codes "icebergCompatV1" ∷ codes "icebergCompatV2" ∷ codes "clustering" ∷ []
+
+abbrev pub is_one_of : List (List ℕ) → List ℕ → Bool
+is_one_of names name = list_any (bytes_eq name) names

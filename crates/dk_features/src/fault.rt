@@ -1,0 +1,41 @@
+//! What is in the way of reading or writing a table.
+
+use std::alloc::AllocError;
+
+/// A list of features.
+#[derive(Clone, Copy, Debug, PartialEq, Eq)]
+pub enum FeatureList {
+    /// The protocol's list for readers.
+    Reader,
+    /// The protocol's list for writers.
+    Writer,
+    /// The features that a version below 7 stands for, in their order: `appendOnly`, `invariants`,
+    /// `checkConstraints`, `changeDataFeed`, `generatedColumns`, `columnMapping`, `identityColumns`.
+    Implied,
+}
+
+/// What is in the way of reading or writing a table: the first that isn't supported.
+#[derive(Clone, Copy, Debug, PartialEq, Eq)]
+pub enum FeatureFault {
+    /// Tables of this version of the protocol aren't read.
+    ReaderVersion { n: u32 },
+    /// Tables of this version of the protocol aren't written.
+    WriterVersion { n: u32 },
+    /// The feature at that place of the list, counted from 0.
+    Feature { list: FeatureList, place: usize },
+    /// The feature `invariants` is in force, and the schema has invariants or can't be read.
+    InvariantsUsed,
+    /// Memory was wanted and not had.
+    OutOfMemory,
+}
+
+impl From<AllocError> for FeatureFault {
+    ghost use Rattle.std.specs.Prelude.{◌≡◌};
+    ghost use Rattle.dk_features.specs.declared.fault.FeatureFault.TheVariants.{OutOfMemory};
+
+    ghost from_gives = { λ _ e. e ≡ OutOfMemory };
+
+    fn from(_refused: AllocError) -> FeatureFault {
+        FeatureFault::OutOfMemory
+    }
+}

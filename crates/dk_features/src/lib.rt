@@ -1,0 +1,17 @@
+//! Which tables are read and written, by the features that their protocols ask for (Delta Lake's PROTOCOL.md,
+//! "Table Features").
+#![tactic(auto)]
+
+mod fault;
+mod features;
+mod naming;
+mod reading;
+mod schema;
+#[cfg(test)]
+mod tests;
+mod writing;
+
+pub use fault::{FeatureFault, FeatureList};
+pub use features::is_in_force;
+pub use reading::can_read;
+pub use writing::can_write;
