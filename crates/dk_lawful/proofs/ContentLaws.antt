@@ -73,14 +73,14 @@ skips_all : {E R : Type 0} (look : List Action → R) (act : E → Action) (es :
 skips_all look act es over = ap look (sym (append-nil (map act es))) ∙ skips look act es [] over
 
 module _ {R : Type 0} (look : List Action → R) (state : TableState) where
-  skips_heads : (rest : List Action) → ((p : Protocol) (more : List Action) → look (action.Protocol p ∷ more) ≡ look more)
+  pub skips_heads : (rest : List Action) → ((p : Protocol) (more : List Action) → look (action.Protocol p ∷ more) ≡ look more)
       → ((m : Metadata) (more : List Action) → look (action.Metadata m ∷ more) ≡ look more) → look (heads state ++ rest) ≡ look rest
   skips_heads rest no_protocol no_metadata =
       ap look (append_assoc (map (λ p. action.Protocol p) (option_to_list state.protocol)) (map (λ m. action.Metadata m) (option_to_list state.metadata)) rest)
       ∙ skips look (λ p. action.Protocol p) (option_to_list state.protocol) (map (λ m. action.Metadata m) (option_to_list state.metadata) ++ rest) no_protocol
       ∙ skips look (λ m. action.Metadata m) (option_to_list state.metadata) rest no_metadata
 
-  skips_named : (rest : List Action) → ((e : List ℕ × Application) (more : List Action) → look (recorded e ∷ more) ≡ look more)
+  pub skips_named : (rest : List Action) → ((e : List ℕ × Application) (more : List Action) → look (recorded e ∷ more) ≡ look more)
       → ((e : List ℕ × List ℕ) (more : List Action) → look (configured e ∷ more) ≡ look more) → look (named_actions state ++ rest) ≡ look rest
   skips_named rest no_record no_domain =
       ap look (append_assoc (map recorded (entries state.applications)) (map configured (entries state.domains)) rest)
@@ -91,7 +91,7 @@ module _ {R : Type 0} (look : List Action → R) (state : TableState) where
       → ((e : List ℕ × List ℕ) (more : List Action) → look (configured e ∷ more) ≡ look more) → look (named_actions state) ≡ look []
   skips_named_all no_record no_domain = ap look (sym (append-nil (named_actions state))) ∙ skips_named [] no_record no_domain
 
-all_quiet : (state : TableState) (cut : ℤ) (files : List (List ℕ × AddFile)) → sidecars_of (all_with state cut files) ≡ Some []
+pub all_quiet : (state : TableState) (cut : ℤ) (files : List (List ℕ × AddFile)) → sidecars_of (all_with state cut files) ≡ Some []
 all_quiet state cut files =
     skips_heads sidecars_of state (adds files ++ (removals state cut ++ named_actions state)) (λ p more. refl) (λ m more. refl)
     ∙ skips sidecars_of live_file files (removals state cut ++ named_actions state) (λ e more. refl)

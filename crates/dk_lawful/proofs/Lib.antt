@@ -9,6 +9,7 @@ pub mod IdsOnce
 pub mod Joined
 pub mod Lists
 pub mod Management
+pub mod MayBeMade
 pub mod MoreExamples
 pub mod NextRatified
 pub mod OnTexts

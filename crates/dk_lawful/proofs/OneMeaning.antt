@@ -31,7 +31,7 @@ module _ (one : MeansOneList) where
       one_value (sidecars_of other.actions) top.sidecars other.sidecars (ap sidecars_of (sym same) ∙ has.named) has_other.named in
       λ i. record { actions = same i; sidecars = sides i }
 
-  top_means : (place : Place) (bytes : List ℕ) (top other : Top) → TopMeans place bytes top → TopMeans place bytes other → top ≡ other
+  pub top_means : (place : Place) (bytes : List ℕ) (top other : Top) → TopMeans place bytes top → TopMeans place bytes other → top ≡ other
   top_means (Classic version) bytes top other means means_other = top_in false bytes top other means means_other
   top_means (V2 version id json) bytes top other means means_other = top_in json bytes top other means.0 means_other.0
   top_means (Part version part parts) bytes top other means means_other = top_in false bytes top other means means_other

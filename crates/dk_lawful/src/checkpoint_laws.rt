@@ -3,7 +3,7 @@
 ghost use Rattle.std.specs.Prelude.{[], codes, pos, true, ◌∷◌};
 ghost use Rattle.dk_lawful.specs.CheckpointExample.{checkpointing, clearing, lacking_text, naming, naming_text, whole_text};
 ghost use Rattle.dk_lawful.specs.CheckpointLaws.{CheckpointMeansOne, PartsStand, ReadPartsStand, ReadTopsStand, TopsStand};
-ghost use Rattle.dk_lawful.specs.ContentLaws.{ClassicStands, PartHasShare, ShareComposes, SidecarsHaveFiles, StandingComposes, V2SaysVersion, V2Stands};
+ghost use Rattle.dk_lawful.specs.ContentLaws.{ClassicMayBeMade, ClassicStands, PartHasShare, PartMayBeMade, ShareComposes, SidecarsHaveFiles, StandingComposes, V2MayBeMade, V2SaysVersion, V2Stands};
 ghost use Rattle.dk_lawful.specs.Example.{IsForbidden, example, first_text, managed_text, ratifying, staged_name_1, staging};
 ghost use Rattle.dk_lawful.specs.MoreExamples.{IsLawfulAfter, side_name};
 ghost use Rattle.dk_paths.specs.Names.{commit_path};
@@ -34,6 +34,15 @@ pub fn contents_stand()
     ensures sidecars { SidecarsHaveFiles }
     ensures stands { StandingComposes }
     ensures share { ShareComposes }
+{}
+
+/// What is written of a checkpoint of a published version may be made, by the state that was opened there and a cut of at
+/// most the horizon: a part, whoever writes the others, and, where a Parquet file means at most one list of rows, a
+/// checkpoint in one object, with its sidecars.
+pub fn contents_may_be_made()
+    ensures part { PartMayBeMade }
+    ensures classic { ClassicMayBeMade }
+    ensures v2 { V2MayBeMade }
 {}
 
 /// The example goes on with two checkpoints of the form V2 in JSON, of either version, after a compacted file; then the

@@ -10,7 +10,8 @@ mod segment;
 
 pub use actor_laws::others_stay_fit;
 pub use checkpoint_laws::{
-    checkpoints_come_and_go, checkpoints_stand, contents_stand, forbidden_checkpoints,
+    checkpoints_come_and_go, checkpoints_stand, contents_may_be_made, contents_stand,
+    forbidden_checkpoints,
 };
 pub use id_laws::ids_stand_once;
 pub use laws::{
