@@ -10,3 +10,5 @@ pub mod Catalogue
 pub mod Sizes
 pub mod Steps
 pub mod Opening
+pub mod Effects
+pub mod Sources

@@ -4,11 +4,13 @@
 
 mod asked;
 mod catalogue;
+mod folding;
 mod open;
 mod opening;
 mod reading;
 mod sizes;
 mod snapshot;
+mod sources;
 mod steps;
 mod support;
 mod table;
