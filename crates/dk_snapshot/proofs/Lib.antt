@@ -11,3 +11,4 @@ pub mod Segments
 pub mod FromListing
 pub mod PlainLog
 pub mod Effects
+pub mod ReadVersions

@@ -1,7 +1,9 @@
 //! Actions that are gathered from the newest to the oldest, and folded into a state.
 ghost use Rattle.std.specs.Prelude.{◌≡◌, ◌++◌, ◌∷◌, IfOk, OnOk, [], reverse};
-ghost use Rattle.std.specs.List.{filter};
-ghost use Rattle.dk_model.specs.State.{empty_state, steps};
+ghost use Rattle.std.specs.List.{AllByRecursion, filter};
+ghost use Rattle.dk_model.specs.ReadBack.{HasVersionsInRange};
+ghost use Rattle.dk_model.specs.State.{empty_state, step, steps};
+ghost use Rattle.dk_model.specs.WellKept.{IsWellKept};
 ghost use Rattle.dk_snapshot.specs.Effects.{changes_state};
 
 use dk_model::{Action, Commit, TableState};
@@ -46,16 +48,29 @@ pub(crate) fn gather(newest_first: &mut Vec<Action>, commit: Commit) -> Result<(
     Ok(())
 }
 
+/// Makes the step of an action. The state stays well kept.
+#[tactic(auto, using(dk_model::proofs::WellKept::step_keeps))]
+fn take(state: &mut TableState, alloc: Global, action: Action) -> Result<(), AllocError>
+    requires { HasVersionsInRange action }
+    ensures step { OnOk result (state.new ≡ step state.old action) }
+    ensures kept { IsWellKept state.old → OnOk result (IsWellKept state.new) }
+{
+    action.note_kept();
+    state.take(alloc, action)
+}
+
 /// The state after these actions, of which the newest comes first. They are given up.
 pub(crate) fn fold_newest_first(
     alloc: Global,
     mut newest_first: Vec<Action>,
 ) -> Result<TableState, AllocError>
-    ensures { IfOk result (λ state. state ≡ steps empty_state (reverse newest_first.items)) }
+    requires { AllByRecursion HasVersionsInRange (reverse newest_first.items) }
+    ensures state { IfOk result (λ state. state ≡ steps empty_state (reverse newest_first.items)) }
+    ensures kept { IfOk result IsWellKept }
 {
     let mut state = TableState::new(alloc);
     while let Some(action) = newest_first.pop() {
-        state.take(alloc, action)?;
+        take(&mut state, alloc, action)?;
     }
     Ok(state)
 }

@@ -1,12 +1,15 @@
 //! A version of the table.
 ghost use Rattle.std.specs.Prelude.{◌≡◌, ◌≤◌, ◌<◌, ◌^◌, Err, IfOk, IfSome, List, None, Some, reverse, ℕ};
+ghost use Rattle.std.specs.List.{AllByRecursion};
 ghost use Rattle.dk_store.specs.Causes.{Rose};
+ghost use Rattle.dk_model.specs.ReadBack.{HasVersionsInRange};
 ghost use Rattle.dk_model.specs.State.{empty_state, steps};
 ghost use Rattle.dk_engine.specs.Answers.{Gives};
 ghost use Rattle.dk_listing.specs.Latest.{latest_of};
 ghost use Rattle.dk_listing.specs.OfEvents.{IsListingOf};
 ghost use Rattle.dk_snapshot.specs.Opening.{opened, opened_segment, read_of, snapshot_with, state_read};
 ghost use Rattle.dk_snapshot.specs.Steps.{AreSized};
+ghost use Rattle.dk_snapshot.specs.Support.{IsComplete};
 
 use crate::catalogue::survey;
 use crate::folding::fold_newest_first;
@@ -29,7 +32,9 @@ fn state_of(
     oldest: &str,
     now: i64,
 ) -> Result<(TableState, i64), Refusal>
+    requires { AllByRecursion HasVersionsInRange (reverse newest_first.items) }
     ensures means { Gives (λ read. read) result (state_read oldest.now now (steps empty_state (reverse newest_first.items))) }
+    ensures complete { IfOk result (λ read. IsComplete read.0) }
     ensures store { result ≡ Err Refusal.Store → ⊥ }
     ensures taken { (path : List ℕ) → result ≡ Err (Refusal.Taken path) → ⊥ }
 {
@@ -56,6 +61,7 @@ fn read_segment(
     ensures store { result ≡ Err Refusal.Store → Rose (store_faults store.old) (store_faults store.new) }
     ensures taken { (path : List ℕ) → result ≡ Err (Refusal.Taken path) → ⊥ }
     ensures means { IfSome (told store.old) (λ events. AreSized events segment.now.steps sizes.now → Gives (λ read. read) result (read_of events limits now segment.now)) }
+    ensures complete { IfOk result (λ read. IsComplete read.0) }
 {
     let steps = segment.steps.as_slice();
     match read_steps(alloc, store, json, steps, sizes, limits.object) {
@@ -98,6 +104,7 @@ fn read_sources(
     ensures store { result ≡ Err Refusal.Store → Rose (store_faults store.old) (store_faults store.new) }
     ensures taken { (path : List ℕ) → result ≡ Err (Refusal.Taken path) → ⊥ }
     ensures means { IfSome (told store.old) (λ events. AreSized events sources.segment.steps sources.sizes.items → Gives (λ snapshot. snapshot) result (opened_segment events limits now sources.version sources.segment)) }
+    ensures complete { IfOk result (λ snapshot. IsComplete snapshot.state) }
     ensures version { IfOk result (λ snapshot. snapshot.version ≡ sources.version) }
 {
     let Sources {
@@ -126,6 +133,7 @@ pub fn open_listed(
     ensures store { result ≡ Err Refusal.Store → Rose (store_faults store.old) (store_faults store.new) }
     ensures taken { (path : List ℕ) → result ≡ Err (Refusal.Taken path) → ⊥ }
     ensures means { IfSome (told store.old) (λ events. IsListingOf events listing.now → Gives (λ snapshot. snapshot) result (opened events limits at choice.now now)) }
+    ensures complete { IfOk result (λ snapshot. IsComplete snapshot.state) }
     ensures latest { at ≡ None → IfOk result (λ snapshot. Some snapshot.version ≡ latest_of listing.now) }
     ensures small { IfOk result (λ snapshot. snapshot.version < 2 ^ 63) }
 {
@@ -153,6 +161,7 @@ fn open_surveyed(
     ensures store { result ≡ Err Refusal.Store → Rose (store_faults store.old) (store_faults store.new) }
     ensures taken { (path : List ℕ) → result ≡ Err (Refusal.Taken path) → ⊥ }
     ensures means { IfSome (told store.old) (λ events. IsListingOf events listing → Gives (λ snapshot. snapshot) result (opened events limits at choice.now now)) }
+    ensures complete { IfOk result (λ snapshot. IsComplete snapshot.state) }
     ensures small { IfOk result (λ snapshot. snapshot.version < 2 ^ 63) }
 {
     match take_sources(alloc, listing, at, choice) {
@@ -172,6 +181,8 @@ fn open_surveyed(
 /// `Limit` of `Object` where it is greater than `limits.object` bytes or else `Damaged` where it means nothing, `Damaged`
 /// of the oldest object, as a whole, where the table has no protocol or no metadata, and `Unsupported` of another reader
 /// version than 1 or 2, of deletion vectors, and of a retention of removed files that is no interval.
+///
+/// Over every store, also one that tells no events, the state that is answered has what writers of checkpoints need of it.
 pub fn open_at(
     alloc: Global,
     store: &mut dyn Store,
@@ -187,6 +198,7 @@ pub fn open_at(
     ensures store { result ≡ Err Refusal.Store → Rose (store_faults store.old) (store_faults store.new) }
     ensures taken { (path : List ℕ) → result ≡ Err (Refusal.Taken path) → ⊥ }
     ensures means { IfSome (told store.old) (λ events. Gives (λ snapshot. snapshot) result (opened events limits at choice.now now)) }
+    ensures complete { IfOk result (λ snapshot. IsComplete snapshot.state) }
     ensures small { IfOk result (λ snapshot. snapshot.version < 2 ^ 63) }
 {
     match survey(alloc, store) {

@@ -1,8 +1,10 @@
 //! Reading the objects of a segment, from the newest to the oldest.
 ghost use Rattle.std.specs.Prelude.{◌≡◌, ◌≤◌, Err, IfOk, IfSome, IsErrOf, List, option_and_then, option_map, reverse, slice_get, ℕ};
+ghost use Rattle.std.specs.List.{AllByRecursion};
 ghost use Rattle.dk_store.specs.Causes.{Rose};
 ghost use Rattle.dk_store.specs.Objects.{content};
 ghost use Rattle.dk_model.specs.CommitText.{reading_of};
+ghost use Rattle.dk_model.specs.ReadBack.{HasVersionsInRange};
 ghost use Rattle.dk_engine.specs.Answers.{Gives};
 ghost use Rattle.dk_listing.specs.Sizes.{stored_size};
 ghost use Rattle.dk_snapshot.specs.Effects.{changes_read};
@@ -52,6 +54,7 @@ fn fits(limit: u64, size: Option<u64>) -> Result<(), Refusal>
 }
 
 /// What the bytes of a commit mean.
+#[tactic(auto, using(crate::proofs::ReadVersions::read_in_range))]
 fn read_bytes(
     alloc: Global,
     json: &mut dyn JsonHandler,
@@ -59,6 +62,7 @@ fn read_bytes(
     bytes: &[u8],
 ) -> Result<Commit, Refusal>
     ensures means { Gives (λ commit. commit) result (meant path.now (reading_of bytes.now)) }
+    ensures versions { IfOk result (λ commit. AllByRecursion HasVersionsInRange commit) }
     ensures store { result ≡ Err Refusal.Store → ⊥ }
     ensures taken { (path : List ℕ) → result ≡ Err (Refusal.Taken path) → ⊥ }
 {
@@ -80,6 +84,7 @@ fn read_object(
     object: Option<Vec<u8>>,
 ) -> Result<Commit, Refusal>
     ensures means { Gives (λ commit. commit) result (commit_of_object path.now (option_map (λ bytes. bytes.items) object)) }
+    ensures versions { IfOk result (λ commit. AllByRecursion HasVersionsInRange commit) }
     ensures store { result ≡ Err Refusal.Store → ⊥ }
     ensures taken { (path : List ℕ) → result ≡ Err (Refusal.Taken path) → ⊥ }
 {
@@ -115,6 +120,7 @@ fn read_commit(
     ensures store { result ≡ Err Refusal.Store → Rose (store_faults store.old) (store_faults store.new) }
     ensures taken { (path : List ℕ) → result ≡ Err (Refusal.Taken path) → ⊥ }
     ensures means { IfSome (told store.old) (λ events. Gives (λ commit. commit) result (commit_of_object path.now (content events path.now))) }
+    ensures versions { IfOk result (λ commit. AllByRecursion HasVersionsInRange commit) }
 {
     let object = get_object(store, path)?;
     read_object(alloc, json, path, object)
@@ -135,6 +141,7 @@ fn read_within(
     ensures store { result ≡ Err Refusal.Store → Rose (store_faults store.old) (store_faults store.new) }
     ensures taken { (path : List ℕ) → result ≡ Err (Refusal.Taken path) → ⊥ }
     ensures means { IfSome (told store.old) (λ events. size ≡ stored_size events path.now → Gives (λ commit. commit) result (commit_in events limit path.now)) }
+    ensures versions { IfOk result (λ commit. AllByRecursion HasVersionsInRange commit) }
 {
     match fits(limit, size) {
         Err(refusal) => Err(refusal),
@@ -157,6 +164,7 @@ fn read_step(
     ensures store { result ≡ Err Refusal.Store → Rose (store_faults store.old) (store_faults store.new) }
     ensures taken { (path : List ℕ) → result ≡ Err (Refusal.Taken path) → ⊥ }
     ensures means { IfSome (told store.old) (λ events. size ≡ stored_size events (step_path step.now) → Gives (λ commit. commit) result (commit_in events limit (step_path step.now))) }
+    ensures versions { IfOk result (λ commit. AllByRecursion HasVersionsInRange commit) }
 {
     read_within(alloc, store, json, step_path(step), size, limit)
 }
@@ -187,6 +195,7 @@ pub(crate) fn read_steps(
     ensures store { result ≡ Err Refusal.Store → Rose (store_faults store.old) (store_faults store.new) }
     ensures taken { (path : List ℕ) → result ≡ Err (Refusal.Taken path) → ⊥ }
     ensures means { IfSome (told store.old) (λ events. AreSized events steps.now sizes.now → Gives (λ found. reverse found.items) result (changes_read (commits_of events limit steps.now))) }
+    ensures versions { IfOk result (λ found. AllByRecursion HasVersionsInRange (reverse found.items)) }
 {
     let mut found = Vec::new(alloc);
     for place in (0..steps.len()).rev() {

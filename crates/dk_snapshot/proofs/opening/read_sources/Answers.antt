@@ -1,5 +1,6 @@
 use Rattle.std.proofs.lemmas.Int.{to_z-of_z}
 use mir.Syntax.{w64}
+use Rattle.dk_snapshot.proofs.Effects.{read_complete}
 use Rattle.dk_snapshot.proofs.Segments.{read_version, sources_read}
 use Rattle.dk_snapshot.proofs.opening.read_sources.Goals as goal
 
@@ -10,3 +11,6 @@ returns-clause-means g c =
 
 pub returns-clause-version : goal.returns-clause-version
 returns-clause-version g c = read_version c.args.sources.version c.args.sources.segment c.read_segment-read.result c.snapshot_with.result c.snapshot_with.ensures
+
+pub returns-clause-complete : goal.returns-clause-complete
+returns-clause-complete g c = read_complete c.args.sources.version c.args.sources.segment c.read_segment-read.result c.snapshot_with.result c.read_segment-read.ensures.complete c.snapshot_with.ensures

@@ -1,9 +1,13 @@
-use Rattle.std.proofs.Common.{arith, refl, rules}
+use Rattle.std.proofs.Common.{List, reverse, subst, sym, arith, refl, rules}
+use Rattle.std.specs.List.{AllByRecursion}
+use Rattle.dk_model.specs.declared.action.Action.{Action}
+use Rattle.dk_model.specs.ReadBack.{HasVersionsInRange}
+use Rattle.dk_snapshot.proofs.Effects.{kept_all}
 use Rattle.dk_snapshot.proofs.StepReads.{read_none, read_more, read_stop, read_all}
 use Rattle.dk_snapshot.proofs.steps.read_steps.Goals as goal
 
 pub loop-place-init : goal.loop-place-init
-loop-place-init g c = (search rules, search rules, read_none _ c.args.limit c.args.steps.now c.args.sizes.now _ c.new-found.result.items refl c.new-found.ensures.items, search rules, search rules)
+loop-place-init g c = (search rules, search rules, read_none _ c.args.limit c.args.steps.now c.args.sizes.now _ c.new-found.result.items refl c.new-found.ensures.items, search rules, search rules, subst (λ (items : List Action). AllByRecursion HasVersionsInRange (reverse items)) (sym c.new-found.ensures.items) tt)
 
 pub loop-place-preserved : goal.loop-place-preserved
 loop-place-preserved g c = (
@@ -13,6 +17,7 @@ loop-place-preserved g c = (
       (omega arith) (omega arith) c.index-steps-place.is c.size_at-size.ensures (search rules) c.loop-place.invariant.0 c.loop-place.invariant.2 c.in-Ok.ensures.means,
   search rules,
   omega arith,
+  subst (λ (items : List Action). AllByRecursion HasVersionsInRange items) (sym (search rules)) (kept_all HasVersionsInRange c.in-Ok.commit (reverse c.loop-place.found.items) (search rules) c.loop-place.invariant.5),
 )
 
 pub returns-in-Err-clause-means : goal.returns-in-Err-clause-means

@@ -1,5 +1,7 @@
 use Rattle.std.proofs.Common.{◌≡◌, ◌≤◌, reverse, length}
 use Rattle.std.specs.Prelude.{IfSome}
+use Rattle.std.specs.List.{AllByRecursion}
+use Rattle.dk_model.specs.ReadBack.{HasVersionsInRange}
 use Rattle.dk_snapshot.specs.Steps.{AreSized}
 use Rattle.dk_snapshot.proofs.StepReads.{AreRead}
 use Rattle.dk_snapshot.proofs.steps.read_steps.Given as goal
@@ -14,3 +16,4 @@ invariant-loop-place g l =
     × IfSome (before.told l.initial.store.now.1) (λ events. AreSized events l.steps l.sizes → AreRead events l.limit l.steps l.place (reverse l.found.items))
     × (now.clashes l.store.now.1 ≡ before.clashes l.initial.store.now.1)
     × (l.place ≤ length l.steps)
+    × AllByRecursion HasVersionsInRange (reverse l.found.items)
