@@ -12,3 +12,5 @@ pub mod FromListing
 pub mod PlainLog
 pub mod Effects
 pub mod ReadVersions
+pub mod LatestVersion
+pub mod KeptVersions

@@ -12,3 +12,5 @@ pub mod Steps
 pub mod Opening
 pub mod Effects
 pub mod Sources
+pub mod LatestVersion
+pub mod KeptVersions

@@ -5,6 +5,7 @@
 mod asked;
 mod catalogue;
 mod folding;
+pub mod laws;
 mod open;
 mod opening;
 mod reading;
