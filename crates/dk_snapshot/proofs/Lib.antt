@@ -8,4 +8,9 @@ pub mod History
 pub mod SizeMaps
 pub mod StepReads
 pub mod Segments
+pub mod FromListing
 pub mod PlainLog
+pub mod Effects
+pub mod ReadVersions
+pub mod LatestVersion
+pub mod KeptVersions

@@ -1,18 +1,17 @@
 -- What is opened by a listing of events is opened by the events.
-use Rattle.std.proofs.Common.{◌≡◌, ℕ, ℤ, suc, zero, ◌+◌, ◌<◌, ◌^◌, List, reverse, refl, ap, ap₂, sym, subst, ◌∙◌, Bool, true, false, inl, inr}
-use Rattle.std.specs.Prelude.{All, Option, Some, None, Result, Ok, Err, IfSome, IfOk, option_and_then, if◌then◌else◌}
+use Rattle.std.proofs.Common.{◌≡◌, ℕ, ℤ, suc, zero, ◌+◌, List, [], ◌∷◌, reverse, arith, refl, ap, ap₂, sym, subst, ◌∙◌, Bool, true, false, inl, inr}
+use Rattle.std.specs.Prelude.{All, map, Option, Some, None, Result, Ok, Err, IfSome, IfOk, option_and_then, if◌then◌else◌}
 use Rattle.std.specs.Option.{option_or}
 use Rattle.std.specs.List.{AllByRecursion}
 use Rattle.std.proofs.lemmas.List.Elements.{All-from_recursion}
 use Rattle.std.proofs.lemmas.Bool.Decides.{eqb_tells}
 use Rattle.dk_store.specs.Told.{Told}
-use Rattle.dk_store.specs.Standings.{standing}
 use Rattle.dk_paths.specs.Places.{Place, Commit_at, Staged, place_path}
 use Rattle.dk_paths.specs.Staged.{IsStaged, IsStagedNameOf, staged_of}
 use Rattle.dk_paths.proofs.StagedNames.{IsStagedNameOf-staged_of}
 use Rattle.dk_model.specs.declared.action.Action.{Action}
 use Rattle.dk_model.specs.declared.state.TableState.{TableState}
-use Rattle.dk_model.specs.State.{fold}
+use Rattle.dk_model.specs.State.{empty_state, steps}
 use Rattle.dk_lawful.specs.declared.segment.Choice.{Choice}
 use Rattle.dk_lawful.specs.declared.segment.Segment.{Segment}
 use Rattle.dk_lawful.specs.declared.segment.Step.{Step}
@@ -23,19 +22,18 @@ use Rattle.dk_engine.specs.declared.refusal.Refusal.TheVariants as refusals
 use Rattle.dk_engine.specs.Answers.{Refuses, Gives}
 use Rattle.dk_engine.proofs.Refused.{refused_by_part, gives_same}
 use Rattle.dk_listing.specs.declared.catalogued.Catalogued.{Catalogued}
-use Rattle.dk_listing.specs.Latest.{latest_of}
-use Rattle.dk_listing.specs.OfEvents.{IsListingOf, stands_at, latest}
-use Rattle.dk_listing.specs.Presence.{lists, ratified_name}
+use Rattle.dk_listing.specs.OfEvents.{IsListingOf}
 use Rattle.dk_listing.specs.Sizes.{listed_size, stored_size}
-use Rattle.dk_listing.proofs.LatestOf.{latest_standing}
 use Rattle.dk_listing.proofs.Sized.{commit_size, staged_size}
 use Rattle.dk_segment.specs.Chosen.{chosen, unless_gap}
-use Rattle.dk_segment.proofs.Agree.{chosen_standing}
 use Rattle.dk_snapshot.specs.declared.table.Snapshot.{Snapshot}
-use Rattle.dk_snapshot.specs.Asked.{version_asked}
 use Rattle.dk_snapshot.specs.Catalogue.{Surveys}
-use Rattle.dk_snapshot.specs.Opening.{state_read, state_of, read_of, snapshot_with, opened_segment, opened_chosen, opened_version, opened_asked, opened}
+use Rattle.dk_snapshot.specs.Effects.{changes_read}
+use Rattle.dk_snapshot.specs.Opening.{state_read, state_of, read_of, snapshot_with, opened_segment, opened}
+use Rattle.dk_snapshot.specs.declared.sources.Sources.{Sources}
+use Rattle.dk_snapshot.specs.Sources.{AreSources}
 use Rattle.dk_snapshot.specs.Steps.{AreSized, commits_of, oldest_path, step_path}
+use Rattle.dk_snapshot.proofs.Effects.{fold_changes}
 
 -- ---- what holds of the commits' places holds of the steps
 
@@ -93,27 +91,53 @@ is_segment : (whole segment : Segment) (gap : Option (List ℕ)) → unless_gap 
 is_segment whole segment None is = cc
 is_segment whole segment (Some path) is = cc
 
+map_same : {X Y : Type 0} (f g : X → Y) (xs : List X) → All (λ (x : X). f x ≡ g x) xs → map f xs ≡ map g xs
+map_same f g [] each = refl
+map_same f g (x ∷ xs) each = ap₂ (λ (y : _) (ys : List _). y ∷ ys) (each 0 x (omega arith)) (map_same f g xs (λ k d less. each (suc k) d (omega arith)))
+
 -- the listed sizes of a segment's steps are those of what stands
-segment_sized : (events : List Told) (listing : Catalogued) → IsListingOf events listing → (present : Place → Bool) (ratified : ℕ → Option (List ℕ)) (version : ℕ) (choice : Choice) (segment : Segment)
-    → chosen present ratified version choice ≡ Ok segment → AreSized (listed_size listing) events segment.steps
+pub segment_sized : (events : List Told) (listing : Catalogued) → IsListingOf events listing → (present : Place → Bool) (ratified : ℕ → Option (List ℕ)) (version : ℕ) (choice : Choice) (segment : Segment)
+    → chosen present ratified version choice ≡ Ok segment → AreSized events segment.steps (map (λ (step : Step). listed_size listing (step_path step)) segment.steps)
 segment_sized events listing is present ratified version choice segment chooses =
     let same : segment_of present ratified version choice ≡ segment = is_segment (segment_of present ratified version choice) segment (first_gap present ratified version choice) chooses in
-    subst (λ (s : Segment). AreSized (listed_size listing) events s.steps) same
-    (chosen_hold (λ path. listed_size listing path ≡ stored_size events path) present ratified version choice (commit_size events listing is) (staged_size events listing is))
+    let size : Step → Option ℕ = λ step. listed_size listing (step_path step) in
+    let stands : Step → Option ℕ = λ step. stored_size events (step_path step) in
+    subst (λ (s : Segment). map size s.steps ≡ map stands s.steps) same
+    (map_same size stands (segment_of present ratified version choice).steps
+    (chosen_hold (λ path. listed_size listing path ≡ stored_size events path) present ratified version choice (commit_size events listing is) (staged_size events listing is)))
 
 -- ---- the steps to a version, over what a store may tell
 
-pub segment_read : {X : Type 0} (view : X → TableState × ℤ) (told : Option (List Told)) (listing : Catalogued) (limits : Limits) (now passed : ℤ) (oldest : List ℕ) (steps : List Step) (segment : Segment) (found : List (List Action)) (result : Result X Refusal)
-    → passed ≡ now → steps ≡ segment.steps → oldest ≡ oldest_path steps
-    → IfSome told (λ events. AreSized (listed_size listing) events steps → commits_of events limits.object steps ≡ Ok (reverse found))
-    → Gives view result (state_read oldest passed (fold (reverse found)))
-    → IfSome told (λ events. AreSized (listed_size listing) events segment.steps → Gives view result (read_of events limits now segment))
-segment_read view None listing limits now passed oldest steps segment found result same walk path reads means = tt
-segment_read view (Some events) listing limits now passed oldest steps segment found result same walk path reads means = λ sized.
-    let here : AreSized (listed_size listing) events steps = subst (λ (s : List Step). AreSized (listed_size listing) events s) (sym walk) sized in
-    gives_same view result (state_read oldest passed (fold (reverse found))) (read_of events limits now segment)
-    (ap (state_of oldest passed) (sym (reads here)) ∙ ap₂ (λ (o : List ℕ) (n : ℤ). state_of o n (commits_of events limits.object steps)) path same
+-- what is read, by its changes
+abbrev by_changes : List ℕ → ℤ → Result (List Action) Refusal → Result (TableState × ℤ) Refusal
+by_changes oldest now (Ok changes) = state_read oldest now (steps empty_state changes)
+by_changes oldest now (Err refusal) = Err refusal
+
+state_by_changes : (oldest : List ℕ) (now : ℤ) (read : Result (List (List Action)) Refusal) → by_changes oldest now (changes_read read) ≡ state_of oldest now read
+state_by_changes oldest now (Ok commits) = ap (λ (s : TableState). state_read oldest now s) (fold_changes empty_state commits)
+state_by_changes oldest now (Err refusal) = refl
+
+pub segment_read : {X : Type 0} (view : X → TableState × ℤ) (told : Option (List Told)) (limits : Limits) (now passed : ℤ) (oldest : List ℕ) (walked : List Step) (segment : Segment) (sizes : List (Option ℕ)) (found : List Action) (result : Result X Refusal)
+    → passed ≡ now → walked ≡ segment.steps → oldest ≡ oldest_path walked
+    → IfSome told (λ events. AreSized events walked sizes → changes_read (commits_of events limits.object walked) ≡ Ok (reverse found))
+    → Gives view result (state_read oldest passed (steps empty_state (reverse found)))
+    → IfSome told (λ events. AreSized events segment.steps sizes → Gives view result (read_of events limits now segment))
+segment_read view None limits now passed oldest walked segment sizes found result same walk path reads means = tt
+segment_read view (Some events) limits now passed oldest walked segment sizes found result same walk path reads means = λ sized.
+    let here : AreSized events walked sizes = subst (λ (s : List Step). AreSized events s sizes) (sym walk) sized in
+    gives_same view result (state_read oldest passed (steps empty_state (reverse found))) (read_of events limits now segment)
+    (ap (by_changes oldest passed) (sym (reads here)) ∙ state_by_changes oldest passed (commits_of events limits.object walked) ∙ ap₂ (λ (o : List ℕ) (n : ℤ). state_of o n (commits_of events limits.object walked)) path same
     ∙ ap (λ (s : List Step). state_of (oldest_path s) now (commits_of events limits.object s)) walk) means
+
+pub segment_refused : (told : Option (List Told)) (limits : Limits) (now : ℤ) (walked : List Step) (segment : Segment) (sizes : List (Option ℕ)) (refusal : Refusal) → walked ≡ segment.steps
+    → IfSome told (λ events. AreSized events walked sizes → Refuses refusal (changes_read (commits_of events limits.object walked)))
+    → IfSome told (λ events. AreSized events segment.steps sizes → Refuses refusal (read_of events limits now segment))
+segment_refused None limits now walked segment sizes refusal walk refused = tt
+segment_refused (Some events) limits now walked segment sizes refusal walk refused = λ sized.
+    let here : AreSized events walked sizes = subst (λ (s : List Step). AreSized events s sizes) (sym walk) sized in
+    subst (λ (s : List Step). Refuses refusal (state_of (oldest_path s) now (commits_of events limits.object s))) walk
+    (subst (λ (read : Result (TableState × ℤ) Refusal). Refuses refusal read) (state_by_changes (oldest_path walked) now (commits_of events limits.object walked))
+    (refused_by_part (by_changes (oldest_path walked) now) (λ r. refl) refusal (changes_read (commits_of events limits.object walked)) (refused here)))
 
 -- a snapshot of what was read is that of what is meant
 snapshot_given : (version : ℕ) (segment : Segment) (read meant : Result (TableState × ℤ) Refusal) → Gives (λ (r : TableState × ℤ). r) read meant
@@ -121,48 +145,39 @@ snapshot_given : (version : ℕ) (segment : Segment) (read meant : Result (Table
 snapshot_given version segment (Ok read) meant gives = ap (snapshot_with version segment) gives
 snapshot_given version segment (Err refusal) meant gives = refused_by_part (snapshot_with version segment) (λ r. refl) refusal meant gives
 
-pub choice_refused : (told : Option (List Told)) (listing : Catalogued) (limits : Limits) (now : ℤ) (version : ℕ) (choice : Choice) (refusal : Refusal) → version < 2 ^ 63
-    → Refuses refusal (chosen (lists listing) (ratified_name listing) version choice)
-    → IfSome told (λ events. IsListingOf events listing → Refuses refusal (opened_version events limits choice now version))
-choice_refused None listing limits now version choice refusal small means = tt
-choice_refused (Some events) listing limits now version choice refusal small means = λ is.
-    refused_by_part (opened_chosen events limits now version) (λ r. refl) refusal (chosen (stands_at events) (standing events) version choice)
-    (subst (λ (meant : Result Segment Refusal). Refuses refusal meant) (chosen_standing events listing is version small choice) means)
-
-pub choice_opened : (told : Option (List Told)) (listing : Catalogued) (limits : Limits) (now passed : ℤ) (version : ℕ) (choice : Choice) (segment : Segment) (read : Result (TableState × ℤ) Refusal) (result : Result Snapshot Refusal)
-    → passed ≡ now → version < 2 ^ 63 → chosen (lists listing) (ratified_name listing) version choice ≡ Ok segment
-    → IfSome told (λ events. AreSized (listed_size listing) events segment.steps → Gives (λ (r : TableState × ℤ). r) read (read_of events limits passed segment))
+-- what is read from sources is the version that they are sources of
+pub sources_read : (told : Option (List Told)) (limits : Limits) (now passed : ℤ) (version : ℕ) (segment : Segment) (sizes lent : List (Option ℕ)) (read : Result (TableState × ℤ) Refusal) (result : Result Snapshot Refusal)
+    → passed ≡ now → lent ≡ sizes
+    → IfSome told (λ events. AreSized events segment.steps lent → Gives (λ (r : TableState × ℤ). r) read (read_of events limits passed segment))
     → result ≡ snapshot_with version segment read
-    → IfSome told (λ events. IsListingOf events listing → Gives (λ (s : Snapshot). s) result (opened_version events limits choice now version))
-choice_opened None listing limits now passed version choice segment read result same small chooses means is_with = tt
-choice_opened (Some events) listing limits now passed version choice segment read result same small chooses means is_with = λ is.
-    let stands : chosen (stands_at events) (standing events) version choice ≡ Ok segment = sym (chosen_standing events listing is version small choice) ∙ chooses in
-    let given : Gives (λ (s : Snapshot). s) (snapshot_with version segment read) (opened_segment events limits passed version segment) =
-    snapshot_given version segment read (read_of events limits passed segment) (means (segment_sized events listing is (stands_at events) (standing events) version choice segment stands)) in
-    gives_same (λ (s : Snapshot). s) result (opened_segment events limits passed version segment) (opened_version events limits choice now version)
-    (ap (opened_chosen events limits passed version) (sym stands) ∙ ap (λ (n : ℤ). opened_version events limits choice n version) same)
-    (subst (λ (r : Result Snapshot Refusal). Gives (λ (s : Snapshot). s) r (opened_segment events limits passed version segment)) (sym is_with) given)
+    → IfSome told (λ events. AreSized events segment.steps sizes → Gives (λ (s : Snapshot). s) result (opened_segment events limits now version segment))
+sources_read None limits now passed version segment sizes lent read result same lends means is_with = tt
+sources_read (Some events) limits now passed version segment sizes lent read result same lends means is_with = λ sized.
+    gives_same (λ (s : Snapshot). s) result (opened_segment events limits passed version segment) (opened_segment events limits now version segment)
+    (ap (λ (n : ℤ). opened_segment events limits n version segment) same)
+    (subst (λ (r : Result Snapshot Refusal). Gives (λ (s : Snapshot). s) r (opened_segment events limits passed version segment)) (sym is_with)
+    (snapshot_given version segment read (read_of events limits passed segment) (means (lends ∙ sized))))
 
 pub read_version : (version : ℕ) (segment : Segment) (read : Result (TableState × ℤ) Refusal) (result : Result Snapshot Refusal) → result ≡ snapshot_with version segment read → IfOk result (λ (s : Snapshot). s.version ≡ version)
 read_version version segment (Ok read) result is_with = subst (λ (r : Result Snapshot Refusal). IfOk r (λ (s : Snapshot). s.version ≡ version)) (sym is_with) refl
 read_version version segment (Err other) result is_with = subst (λ (r : Result Snapshot Refusal). IfOk r (λ (s : Snapshot). s.version ≡ version)) (sym is_with) tt
 
-pub asked_refused : (told : Option (List Told)) (listing : Catalogued) (limits : Limits) (at latest_listed : Option ℕ) (choice : Choice) (now : ℤ) (refusal : Refusal) → latest_listed ≡ latest_of listing
-    → Refuses refusal (version_asked at latest_listed)
-    → IfSome told (λ events. IsListingOf events listing → Refuses refusal (opened events limits at choice now))
-asked_refused None listing limits at latest_listed choice now refusal same means = tt
-asked_refused (Some events) listing limits at latest_listed choice now refusal same means = λ is.
-    refused_by_part (opened_asked events limits choice now) (λ r. refl) refusal (version_asked at (latest events))
-    (subst (λ (l : Option ℕ). Refuses refusal (version_asked at l)) (same ∙ latest_standing events listing is) means)
-
-pub asked_opened : {X : Type 0} (view : X → Snapshot) (told : Option (List Told)) (listing : Catalogued) (limits : Limits) (at latest_listed : Option ℕ) (choice : Choice) (now passed : ℤ) (version : ℕ) (result : Result X Refusal) → passed ≡ now
-    → latest_listed ≡ latest_of listing → version_asked at latest_listed ≡ Ok version
-    → IfSome told (λ events. IsListingOf events listing → Gives view result (opened_version events limits choice passed version))
+-- sources by a listing of the events give the asked version
+pub listed_opened : {X : Type 0} (view : X → Snapshot) (told : Option (List Told)) (listing : Catalogued) (limits : Limits) (at : Option ℕ) (choice : Choice) (now passed : ℤ) (sources : Sources) (result : Result X Refusal) → passed ≡ now
+    → ((events : List Told) → IsListingOf events listing → AreSources events at choice (Ok sources))
+    → IfSome told (λ events. AreSized events sources.segment.steps sources.sizes.items → Gives view result (opened_segment events limits passed sources.version sources.segment))
     → IfSome told (λ events. IsListingOf events listing → Gives view result (opened events limits at choice now))
-asked_opened view None listing limits at latest_listed choice now passed version result moment same asks means = tt
-asked_opened view (Some events) listing limits at latest_listed choice now passed version result moment same asks means = λ is.
-    gives_same view result (opened_version events limits choice passed version) (opened events limits at choice now)
-    (ap (opened_asked events limits choice passed) (sym asks ∙ ap (version_asked at) (same ∙ latest_standing events listing is)) ∙ ap (λ (n : ℤ). opened events limits at choice n) moment) (means is)
+listed_opened view None listing limits at choice now passed sources result moment found means = tt
+listed_opened view (Some events) listing limits at choice now passed sources result moment found means = λ is.
+    let are : AreSources events at choice (Ok sources) = found events is in
+    gives_same view result (opened_segment events limits passed sources.version sources.segment) (opened events limits at choice now)
+    (sym (are.0 limits passed) ∙ ap (λ (n : ℤ). opened events limits at choice n) moment) (means are.1)
+
+pub listed_refused : (told : Option (List Told)) (listing : Catalogued) (limits : Limits) (at : Option ℕ) (choice : Choice) (now : ℤ) (refusal : Refusal)
+    → ((events : List Told) → IsListingOf events listing → AreSources events at choice (Err refusal))
+    → IfSome told (λ events. IsListingOf events listing → Refuses refusal (opened events limits at choice now))
+listed_refused None listing limits at choice now refusal found = tt
+listed_refused (Some events) listing limits at choice now refusal found = λ is. found events is limits now
 
 -- a survey is refused by the store or by want of memory alone
 refused_survey : (events : List Told) (limits : Limits) (at : Option ℕ) (choice : Choice) (now : ℤ) (refusal : Refusal) → Surveys events (Err refusal) → Refuses refusal (opened events limits at choice now)

@@ -10,3 +10,7 @@ pub mod Catalogue
 pub mod Sizes
 pub mod Steps
 pub mod Opening
+pub mod Effects
+pub mod Sources
+pub mod LatestVersion
+pub mod KeptVersions

@@ -1,5 +1,5 @@
 -- What the objects of a segment mean, by the events of the store alone.
-use Rattle.std.specs.Prelude.{ℕ, ◌≡◌, All, List, [], ◌∷◌, Option, Some, None, Result, Ok, Err, nat_lt, reverse, if◌then◌else◌}
+use Rattle.std.specs.Prelude.{ℕ, ◌≡◌, List, map, [], ◌∷◌, Option, Some, None, Result, Ok, Err, nat_lt, reverse, if◌then◌else◌}
 use Rattle.dk_store.specs.Told.{Told}
 use Rattle.dk_store.specs.Objects.{content}
 use Rattle.dk_model.specs.declared.action.Action.{Action}
@@ -43,6 +43,6 @@ commits_back events limit (step ∷ older) = newest_behind (commit_in events lim
 abbrev pub commits_of : List Told → ℕ → List Step → Result (List (List Action)) Refusal
 commits_of events limit steps = commits_back events limit (reverse steps)
 
--- the sizes that are known of the steps are those of what stands
-abbrev pub AreSized : (List ℕ → Option ℕ) → List Told → List Step → Type 0
-AreSized size events steps = All (λ step. size (step_path step) ≡ stored_size events (step_path step)) steps
+-- these are the sizes of what stands at the steps
+abbrev pub AreSized : List Told → List Step → List (Option ℕ) → Type 0
+AreSized events steps sizes = sizes ≡ map (λ step. stored_size events (step_path step)) steps

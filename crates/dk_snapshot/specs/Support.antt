@@ -1,6 +1,6 @@
 -- Which tables are read so far, and from which moment on their removed files are still told (Delta Lake's PROTOCOL.md, "Protocol
 -- Evolution", "Reader Requirements for Deletion Vectors", "Add File and Remove File").
-use Rattle.std.specs.Prelude.{ℕ, ℤ, pos, negsuc, ◌-ℤ◌, ◌^◌, ◌-◌, ◌==◌, ◌||◌, ◌++◌, not, Bool, true, false, ◌≡◌, List, Option, Some, None, Result, Ok, Err, if◌then◌else◌, codes, decimal}
+use Rattle.std.specs.Prelude.{ℕ, ℤ, pos, negsuc, ◌-ℤ◌, ◌^◌, ◌-◌, ◌==◌, ◌||◌, ◌++◌, not, Bool, true, false, ◌≡◌, List, Option, Some, None, IsSome, Result, Ok, Err, if◌then◌else◌, codes, decimal}
 use Rattle.std.specs.FinMap as map
 use Rattle.std.specs.Int.{int_max}
 use Rattle.std.specs.List.{list_any}
@@ -10,6 +10,7 @@ use Rattle.dk_model.specs.declared.action.Metadata.{Metadata}
 use Rattle.dk_model.specs.declared.state.TableState.{TableState}
 use Rattle.dk_model.specs.Settings.{setting}
 use Rattle.dk_model.specs.Texts.{ByText}
+use Rattle.dk_model.specs.WellKept.{IsWellKept}
 use Rattle.dk_paths.specs.Intervals.{interval_of}
 use Rattle.dk_engine.specs.declared.refusal.Refusal.{Refusal}
 use Rattle.dk_engine.specs.declared.refusal.Refusal.TheVariants.{Damaged, Unsupported}
@@ -80,3 +81,10 @@ pub record IsRead (state : TableState) (kept : ℤ) : Type 0 where
   pub reader : is_reader_known protocol ≡ true
   pub vectors : has_vectors state.files ≡ false
   pub retention : retention metadata ≡ Some kept
+
+-- what writers of checkpoints need of a state: it has a protocol and metadata, is well kept, and no deletion vector stands beside a file
+pub record IsComplete (state : TableState) : Type 0 where
+  pub kept : IsWellKept state
+  pub protocol : IsSome state.protocol
+  pub metadata : IsSome state.metadata
+  pub no_vectors : has_vectors state.files ≡ false

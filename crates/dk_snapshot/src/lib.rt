@@ -4,11 +4,14 @@
 
 mod asked;
 mod catalogue;
+mod folding;
+pub mod laws;
 mod open;
 mod opening;
 mod reading;
 mod sizes;
 mod snapshot;
+mod sources;
 mod steps;
 mod support;
 mod table;

@@ -1,41 +1,44 @@
 //! A version of the table.
 ghost use Rattle.std.specs.Prelude.{◌≡◌, ◌≤◌, ◌<◌, ◌^◌, Err, IfOk, IfSome, List, None, Some, reverse, ℕ};
+ghost use Rattle.std.specs.List.{AllByRecursion};
 ghost use Rattle.dk_store.specs.Causes.{Rose};
-ghost use Rattle.dk_model.specs.State.{fold};
+ghost use Rattle.dk_model.specs.ReadBack.{HasVersionsInRange};
+ghost use Rattle.dk_model.specs.State.{empty_state, steps};
 ghost use Rattle.dk_engine.specs.Answers.{Gives};
 ghost use Rattle.dk_listing.specs.Latest.{latest_of};
 ghost use Rattle.dk_listing.specs.OfEvents.{IsListingOf};
-ghost use Rattle.dk_listing.specs.Sizes.{listed_size};
-ghost use Rattle.dk_snapshot.specs.Opening.{opened, opened_version, read_of, snapshot_with, state_read};
+ghost use Rattle.dk_snapshot.specs.Opening.{opened, opened_segment, read_of, snapshot_with, state_read};
 ghost use Rattle.dk_snapshot.specs.Steps.{AreSized};
+ghost use Rattle.dk_snapshot.specs.Support.{IsComplete};
 
-use crate::asked::asked_version;
 use crate::catalogue::survey;
-use crate::open::fold_all;
-use crate::steps::{oldest_path, read_listed};
+use crate::folding::fold_newest_first;
+use crate::sources::{Sources, find_sources, take_sources};
+use crate::steps::{oldest_path, read_steps};
 use crate::support::cut_of;
 use crate::table::Snapshot;
 use dk_engine::{JsonHandler, Limits, Refusal};
 use dk_lawful::{Choice, Segment};
 use dk_listing::Catalogued;
-use dk_model::{Commit, TableState};
-use dk_segment::choose;
+use dk_model::{Action, TableState};
 use dk_store::Store;
 use std::alloc::Global;
 
-/// The state that these commits make up, of which the newest comes first, and its cut. They are given up. `oldest` is the
-/// path of the oldest.
+/// The state that these actions make up, of which the newest comes first, and its cut. They are given up. `oldest` is the
+/// path of the oldest object.
 fn state_of(
     alloc: Global,
-    newest_first: Vec<Commit>,
+    newest_first: Vec<Action>,
     oldest: &str,
     now: i64,
 ) -> Result<(TableState, i64), Refusal>
-    ensures means { Gives (λ read. read) result (state_read oldest.now now (fold (reverse newest_first.items))) }
+    requires { AllByRecursion HasVersionsInRange (reverse newest_first.items) }
+    ensures means { Gives (λ read. read) result (state_read oldest.now now (steps empty_state (reverse newest_first.items))) }
+    ensures complete { IfOk result (λ read. IsComplete read.0) }
     ensures store { result ≡ Err Refusal.Store → ⊥ }
     ensures taken { (path : List ℕ) → result ≡ Err (Refusal.Taken path) → ⊥ }
 {
-    let state = fold_all(alloc, newest_first)?;
+    let state = fold_newest_first(alloc, newest_first)?;
     match cut_of(alloc, &state, oldest, now) {
         Err(refusal) => Err(refusal),
         Ok(cut) => Ok((state, cut)),
@@ -48,7 +51,7 @@ fn read_segment(
     store: &mut dyn Store,
     json: &mut dyn JsonHandler,
     limits: Limits,
-    listing: &Catalogued,
+    sizes: &[Option<u64>],
     segment: &Segment,
     now: i64,
 ) -> Result<(TableState, i64), Refusal>
@@ -57,10 +60,11 @@ fn read_segment(
     ensures later { store_faults store.old ≤ store_faults store.new }
     ensures store { result ≡ Err Refusal.Store → Rose (store_faults store.old) (store_faults store.new) }
     ensures taken { (path : List ℕ) → result ≡ Err (Refusal.Taken path) → ⊥ }
-    ensures means { IfSome (told store.old) (λ events. AreSized (listed_size listing.now) events segment.now.steps → Gives (λ read. read) result (read_of events limits now segment.now)) }
+    ensures means { IfSome (told store.old) (λ events. AreSized events segment.now.steps sizes.now → Gives (λ read. read) result (read_of events limits now segment.now)) }
+    ensures complete { IfOk result (λ read. IsComplete read.0) }
 {
     let steps = segment.steps.as_slice();
-    match read_listed(alloc, store, json, steps, listing, limits.object) {
+    match read_steps(alloc, store, json, steps, sizes, limits.object) {
         Err(refusal) => Err(refusal),
         Ok(newest_first) => state_of(alloc, newest_first, oldest_path(steps), now),
     }
@@ -85,33 +89,31 @@ fn snapshot_with(
     }
 }
 
-/// Opens a version.
-fn open_version(
+/// Opens the version that is read from these sources.
+fn read_sources(
     alloc: Global,
     store: &mut dyn Store,
     json: &mut dyn JsonHandler,
     limits: Limits,
-    listing: &Catalogued,
-    version: u64,
-    choice: &Choice,
+    sources: Sources,
     now: i64,
 ) -> Result<Snapshot, Refusal>
-    requires { version < 2 ^ 63 }
     ensures same { told store.new ≡ told store.old }
     ensures clashes { clashes store.new ≡ clashes store.old }
     ensures later { store_faults store.old ≤ store_faults store.new }
     ensures store { result ≡ Err Refusal.Store → Rose (store_faults store.old) (store_faults store.new) }
     ensures taken { (path : List ℕ) → result ≡ Err (Refusal.Taken path) → ⊥ }
-    ensures means { IfSome (told store.old) (λ events. IsListingOf events listing.now → Gives (λ snapshot. snapshot) result (opened_version events limits choice.now now version)) }
-    ensures version { IfOk result (λ snapshot. snapshot.version ≡ version) }
+    ensures means { IfSome (told store.old) (λ events. AreSized events sources.segment.steps sources.sizes.items → Gives (λ snapshot. snapshot) result (opened_segment events limits now sources.version sources.segment)) }
+    ensures complete { IfOk result (λ snapshot. IsComplete snapshot.state) }
+    ensures version { IfOk result (λ snapshot. snapshot.version ≡ sources.version) }
 {
-    match choose(alloc, listing, version, choice) {
-        Err(refusal) => Err(refusal),
-        Ok(segment) => {
-            let read = read_segment(alloc, store, json, limits, listing, &segment, now);
-            snapshot_with(version, segment, read)
-        }
-    }
+    let Sources {
+        version,
+        segment,
+        sizes,
+    } = sources;
+    let read = read_segment(alloc, store, json, limits, &sizes, &segment, now);
+    snapshot_with(version, segment, read)
 }
 
 /// Opens the asked version, or the latest one, by the listing that a survey found. Refused as [`open_at`] is.
@@ -131,12 +133,40 @@ pub fn open_listed(
     ensures store { result ≡ Err Refusal.Store → Rose (store_faults store.old) (store_faults store.new) }
     ensures taken { (path : List ℕ) → result ≡ Err (Refusal.Taken path) → ⊥ }
     ensures means { IfSome (told store.old) (λ events. IsListingOf events listing.now → Gives (λ snapshot. snapshot) result (opened events limits at choice.now now)) }
+    ensures complete { IfOk result (λ snapshot. IsComplete snapshot.state) }
     ensures latest { at ≡ None → IfOk result (λ snapshot. Some snapshot.version ≡ latest_of listing.now) }
     ensures small { IfOk result (λ snapshot. snapshot.version < 2 ^ 63) }
 {
-    match asked_version(alloc, listing.latest(), at) {
+    match find_sources(alloc, listing, at, choice) {
         Err(refusal) => Err(refusal),
-        Ok(version) => open_version(alloc, store, json, limits, listing, version, choice, now),
+        Ok(sources) => read_sources(alloc, store, json, limits, sources, now),
+    }
+}
+
+/// Opens the asked version, or the latest one, by the listing that a survey found. The listing is given up before any object
+/// is read. Refused as [`open_at`] is.
+fn open_surveyed(
+    alloc: Global,
+    store: &mut dyn Store,
+    json: &mut dyn JsonHandler,
+    limits: Limits,
+    listing: Catalogued,
+    at: Option<u64>,
+    choice: &Choice,
+    now: i64,
+) -> Result<Snapshot, Refusal>
+    ensures same { told store.new ≡ told store.old }
+    ensures clashes { clashes store.new ≡ clashes store.old }
+    ensures later { store_faults store.old ≤ store_faults store.new }
+    ensures store { result ≡ Err Refusal.Store → Rose (store_faults store.old) (store_faults store.new) }
+    ensures taken { (path : List ℕ) → result ≡ Err (Refusal.Taken path) → ⊥ }
+    ensures means { IfSome (told store.old) (λ events. IsListingOf events listing → Gives (λ snapshot. snapshot) result (opened events limits at choice.now now)) }
+    ensures complete { IfOk result (λ snapshot. IsComplete snapshot.state) }
+    ensures small { IfOk result (λ snapshot. snapshot.version < 2 ^ 63) }
+{
+    match take_sources(alloc, listing, at, choice) {
+        Err(refusal) => Err(refusal),
+        Ok(sources) => read_sources(alloc, store, json, limits, sources, now),
     }
 }
 
@@ -151,6 +181,8 @@ pub fn open_listed(
 /// `Limit` of `Object` where it is greater than `limits.object` bytes or else `Damaged` where it means nothing, `Damaged`
 /// of the oldest object, as a whole, where the table has no protocol or no metadata, and `Unsupported` of another reader
 /// version than 1 or 2, of deletion vectors, and of a retention of removed files that is no interval.
+///
+/// Over every store, also one that tells no events, the state that is answered has what writers of checkpoints need of it.
 pub fn open_at(
     alloc: Global,
     store: &mut dyn Store,
@@ -166,10 +198,11 @@ pub fn open_at(
     ensures store { result ≡ Err Refusal.Store → Rose (store_faults store.old) (store_faults store.new) }
     ensures taken { (path : List ℕ) → result ≡ Err (Refusal.Taken path) → ⊥ }
     ensures means { IfSome (told store.old) (λ events. Gives (λ snapshot. snapshot) result (opened events limits at choice.now now)) }
+    ensures complete { IfOk result (λ snapshot. IsComplete snapshot.state) }
     ensures small { IfOk result (λ snapshot. snapshot.version < 2 ^ 63) }
 {
     match survey(alloc, store) {
         Err(refusal) => Err(refusal),
-        Ok(listing) => open_listed(alloc, store, json, limits, &listing, at, choice, now),
+        Ok(listing) => open_surveyed(alloc, store, json, limits, listing, at, choice, now),
     }
 }

@@ -3,15 +3,19 @@ ghost use Rattle.std.specs.Prelude.{◌≡◌, IfOk, map, option_copied};
 ghost use Rattle.dk_store.specs.Views.{listed};
 ghost use Rattle.dk_store.specs.Listing.{behind};
 ghost use Rattle.dk_paths.specs.Places.{log_front, staged_front};
+ghost use Rattle.dk_listing.specs.Sizes.{listed_size};
 ghost use Rattle.dk_snapshot.specs.Sizes.{HasSizes, Knows, known_in_log, known_size, size_under};
+ghost use Rattle.dk_snapshot.specs.Steps.{step_path};
 
+use crate::steps::step_path;
+use dk_lawful::Step;
 use dk_listing::{Catalogued, Named, Staged};
 use std::alloc::{AllocError, Global};
 use std::collections::BTreeMap;
 
 /// The sizes that a listing shows, each under the name of its object.
 #[derive(Drop)]
-pub(crate) struct Sizes<'a> {
+struct Sizes<'a> {
     /// In the log's own folder.
     log: BTreeMap<&'a str, u64>,
     /// In the folder of staged commits.
@@ -48,7 +52,7 @@ fn staged_sizes<'a>(
 }
 
 /// The sizes that this listing shows.
-pub(crate) fn sizes_of<'a>(alloc: Global, listing: &'a Catalogued) -> Result<Sizes<'a>, AllocError>
+fn sizes_of<'a>(alloc: Global, listing: &'a Catalogued) -> Result<Sizes<'a>, AllocError>
     ensures { IfOk result (λ sizes. Knows sizes listing.now) }
 {
     Ok(Sizes {
@@ -80,11 +84,38 @@ fn size_in_log<'a>(sizes: &Sizes<'a>, rest: &'a str) -> Option<u64>
 }
 
 /// The listed size of the object at a path.
-pub(crate) fn known_size<'a>(sizes: &Sizes<'a>, path: &'a str) -> Option<u64>
+fn known_size<'a>(sizes: &Sizes<'a>, path: &'a str) -> Option<u64>
     ensures { result ≡ known_size sizes.now path.now }
 {
     match behind("_delta_log/", path) {
         Some(rest) => size_in_log(sizes, rest),
         None => None,
     }
+}
+
+/// The size that is known of each step's object.
+fn known_sizes<'a>(
+    alloc: Global,
+    sizes: &Sizes<'a>,
+    steps: &'a [Step],
+) -> Result<Vec<Option<u64>>, AllocError>
+    ensures { IfOk result (λ found. found.items ≡ map (λ step. known_size sizes.now (step_path step)) steps.now) }
+{
+    let mut found = Vec::with_capacity(alloc, steps.len())?;
+    for step in steps {
+        found.push(known_size(sizes, step_path(step)))?;
+    }
+    Ok(found)
+}
+
+/// The size of each step's object, as the listing shows it.
+pub(crate) fn step_sizes<'a>(
+    alloc: Global,
+    listing: &'a Catalogued,
+    steps: &'a [Step],
+) -> Result<Vec<Option<u64>>, AllocError>
+    ensures { IfOk result (λ found. found.items ≡ map (λ step. listed_size listing.now (step_path step)) steps.now) }
+{
+    let sizes = sizes_of(alloc, listing)?;
+    known_sizes(alloc, &sizes, steps)
 }

@@ -1,24 +1,25 @@
 //! Reading the objects of a segment, from the newest to the oldest.
-ghost use Rattle.std.specs.Prelude.{◌≡◌, ◌≤◌, Err, IfOk, IfSome, List, ℕ, option_map, reverse, vec_len, IsErrOf};
+ghost use Rattle.std.specs.Prelude.{◌≡◌, ◌≤◌, Err, IfOk, IfSome, IsErrOf, List, option_and_then, option_map, reverse, slice_get, ℕ};
+ghost use Rattle.std.specs.List.{AllByRecursion};
 ghost use Rattle.dk_store.specs.Causes.{Rose};
 ghost use Rattle.dk_store.specs.Objects.{content};
 ghost use Rattle.dk_model.specs.CommitText.{reading_of};
+ghost use Rattle.dk_model.specs.ReadBack.{HasVersionsInRange};
 ghost use Rattle.dk_engine.specs.Answers.{Gives};
-ghost use Rattle.dk_listing.specs.Sizes.{listed_size, stored_size};
+ghost use Rattle.dk_listing.specs.Sizes.{stored_size};
+ghost use Rattle.dk_snapshot.specs.Effects.{changes_read};
 ghost use Rattle.dk_snapshot.specs.Log.{commit_of_object, meant};
-ghost use Rattle.dk_snapshot.specs.Sizes.{known_size};
 ghost use Rattle.dk_snapshot.specs.Steps.{AreSized, commit_in, commits_of, fits, oldest_path, step_path};
 
-use crate::sizes::{Sizes, known_size, sizes_of};
+use crate::folding::gather;
 use crate::support::FIRST_COMMIT;
 use dk_engine::{JsonHandler, Refusal, Which};
 use dk_lawful::Step;
-use dk_listing::Catalogued;
-use dk_model::{Commit, LineFault, Text};
+use dk_model::{Action, Commit, LineFault, Text};
 use dk_store::{Store, StoreError};
 use std::alloc::Global;
 
-fn step_path(step: &Step) -> &str
+pub(crate) fn step_path(step: &Step) -> &str
     ensures { result.now ≡ step_path step.now }
 {
     match step {
@@ -53,6 +54,7 @@ fn fits(limit: u64, size: Option<u64>) -> Result<(), Refusal>
 }
 
 /// What the bytes of a commit mean.
+#[tactic(auto, using(crate::proofs::ReadVersions::read_in_range))]
 fn read_bytes(
     alloc: Global,
     json: &mut dyn JsonHandler,
@@ -60,6 +62,7 @@ fn read_bytes(
     bytes: &[u8],
 ) -> Result<Commit, Refusal>
     ensures means { Gives (λ commit. commit) result (meant path.now (reading_of bytes.now)) }
+    ensures versions { IfOk result (λ commit. AllByRecursion HasVersionsInRange commit) }
     ensures store { result ≡ Err Refusal.Store → ⊥ }
     ensures taken { (path : List ℕ) → result ≡ Err (Refusal.Taken path) → ⊥ }
 {
@@ -81,6 +84,7 @@ fn read_object(
     object: Option<Vec<u8>>,
 ) -> Result<Commit, Refusal>
     ensures means { Gives (λ commit. commit) result (commit_of_object path.now (option_map (λ bytes. bytes.items) object)) }
+    ensures versions { IfOk result (λ commit. AllByRecursion HasVersionsInRange commit) }
     ensures store { result ≡ Err Refusal.Store → ⊥ }
     ensures taken { (path : List ℕ) → result ≡ Err (Refusal.Taken path) → ⊥ }
 {
@@ -116,6 +120,7 @@ fn read_commit(
     ensures store { result ≡ Err Refusal.Store → Rose (store_faults store.old) (store_faults store.new) }
     ensures taken { (path : List ℕ) → result ≡ Err (Refusal.Taken path) → ⊥ }
     ensures means { IfSome (told store.old) (λ events. Gives (λ commit. commit) result (commit_of_object path.now (content events path.now))) }
+    ensures versions { IfOk result (λ commit. AllByRecursion HasVersionsInRange commit) }
 {
     let object = get_object(store, path)?;
     read_object(alloc, json, path, object)
@@ -136,6 +141,7 @@ fn read_within(
     ensures store { result ≡ Err Refusal.Store → Rose (store_faults store.old) (store_faults store.new) }
     ensures taken { (path : List ℕ) → result ≡ Err (Refusal.Taken path) → ⊥ }
     ensures means { IfSome (told store.old) (λ events. size ≡ stored_size events path.now → Gives (λ commit. commit) result (commit_in events limit path.now)) }
+    ensures versions { IfOk result (λ commit. AllByRecursion HasVersionsInRange commit) }
 {
     match fits(limit, size) {
         Err(refusal) => Err(refusal),
@@ -143,13 +149,13 @@ fn read_within(
     }
 }
 
-/// Reads the commit of a step.
-fn read_step<'a>(
+/// Reads the commit of a step, whose listed size is this.
+fn read_step(
     alloc: Global,
     store: &mut dyn Store,
     json: &mut dyn JsonHandler,
-    step: &'a Step,
-    sizes: &Sizes<'a>,
+    step: &Step,
+    size: Option<u64>,
     limit: u64,
 ) -> Result<Commit, Refusal>
     ensures same { told store.new ≡ told store.old }
@@ -157,56 +163,47 @@ fn read_step<'a>(
     ensures later { store_faults store.old ≤ store_faults store.new }
     ensures store { result ≡ Err Refusal.Store → Rose (store_faults store.old) (store_faults store.new) }
     ensures taken { (path : List ℕ) → result ≡ Err (Refusal.Taken path) → ⊥ }
-    ensures means { IfSome (told store.old) (λ events. known_size sizes.now (step_path step.now) ≡ stored_size events (step_path step.now) → Gives (λ commit. commit) result (commit_in events limit (step_path step.now))) }
+    ensures means { IfSome (told store.old) (λ events. size ≡ stored_size events (step_path step.now) → Gives (λ commit. commit) result (commit_in events limit (step_path step.now))) }
+    ensures versions { IfOk result (λ commit. AllByRecursion HasVersionsInRange commit) }
 {
-    let path = step_path(step);
-    let size = known_size(sizes, path);
-    read_within(alloc, store, json, path, size, limit)
+    read_within(alloc, store, json, step_path(step), size, limit)
 }
 
-/// Reads the commits of these steps, from the newest to the oldest.
-fn read_steps<'a>(
+/// The size at a place of a list of sizes, if one is known.
+fn size_at(sizes: &[Option<u64>], place: usize) -> Option<u64>
+    ensures { result ≡ option_and_then (λ size. size) (slice_get sizes.now place) }
+{
+    match sizes.get(place) {
+        Some(size) => *size,
+        None => None,
+    }
+}
+
+/// Reads the commits of these steps, whose listed sizes are these, from the newest to the oldest, each once. Of their
+/// actions those are kept that change a state, the newest first.
+pub(crate) fn read_steps(
     alloc: Global,
     store: &mut dyn Store,
     json: &mut dyn JsonHandler,
-    steps: &'a [Step],
-    sizes: &Sizes<'a>,
+    steps: &[Step],
+    sizes: &[Option<u64>],
     limit: u64,
-) -> Result<Vec<Commit>, Refusal>
+) -> Result<Vec<Action>, Refusal>
     ensures same { told store.new ≡ told store.old }
     ensures clashes { clashes store.new ≡ clashes store.old }
     ensures later { store_faults store.old ≤ store_faults store.new }
     ensures store { result ≡ Err Refusal.Store → Rose (store_faults store.old) (store_faults store.new) }
     ensures taken { (path : List ℕ) → result ≡ Err (Refusal.Taken path) → ⊥ }
-    ensures means { IfSome (told store.old) (λ events. AreSized (known_size sizes.now) events steps.now → Gives (λ found. reverse found.items) result (commits_of events limit steps.now)) }
+    ensures means { IfSome (told store.old) (λ events. AreSized events steps.now sizes.now → Gives (λ found. reverse found.items) result (changes_read (commits_of events limit steps.now))) }
+    ensures versions { IfOk result (λ found. AllByRecursion HasVersionsInRange (reverse found.items)) }
 {
     let mut found = Vec::new(alloc);
     for place in (0..steps.len()).rev() {
-        match read_step(alloc, store, json, &steps[place], sizes, limit) {
-            Ok(commit) => found.push(commit)?,
+        let size = size_at(sizes, place);
+        match read_step(alloc, store, json, &steps[place], size, limit) {
+            Ok(commit) => gather(&mut found, commit)?,
             Err(refusal) => return Err(refusal),
         }
     }
     Ok(found)
-}
-
-/// Reads the commits of these steps by the sizes that the listing shows, from the newest to the oldest. Each object is
-/// read once.
-pub(crate) fn read_listed<'a>(
-    alloc: Global,
-    store: &mut dyn Store,
-    json: &mut dyn JsonHandler,
-    steps: &'a [Step],
-    listing: &'a Catalogued,
-    limit: u64,
-) -> Result<Vec<Commit>, Refusal>
-    ensures same { told store.new ≡ told store.old }
-    ensures clashes { clashes store.new ≡ clashes store.old }
-    ensures later { store_faults store.old ≤ store_faults store.new }
-    ensures store { result ≡ Err Refusal.Store → Rose (store_faults store.old) (store_faults store.new) }
-    ensures taken { (path : List ℕ) → result ≡ Err (Refusal.Taken path) → ⊥ }
-    ensures means { IfSome (told store.old) (λ events. AreSized (listed_size listing.now) events steps.now → Gives (λ found. reverse found.items) result (commits_of events limit steps.now)) }
-{
-    let sizes = sizes_of(alloc, listing)?;
-    read_steps(alloc, store, json, steps, &sizes, limit)
 }

@@ -9,5 +9,5 @@ returns-in-Err-clause-means g c = survey_refused _ c.args.limits c.args.at c.arg
 
 pub returns-in-Ok-clause-means : goal.returns-in-Ok-clause-means
 returns-in-Ok-clause-means g c =
-    survey_opened {X = Snapshot} (λ snapshot. snapshot) _ _ c.in-Ok.listing c.args.limits c.args.at c.args.choice.now c.args.now _ c.open_listed.result (to_z-of_z w64 c.args.now c.ranges.now)
-    c.in-Ok.ensures.same c.in-Ok.ensures.found c.open_listed.ensures.means
+    survey_opened {X = Snapshot} (λ snapshot. snapshot) _ _ c.in-Ok.listing c.args.limits c.args.at c.args.choice.now c.args.now _ c.open_surveyed.result (to_z-of_z w64 c.args.now c.ranges.now)
+    c.in-Ok.ensures.same c.in-Ok.ensures.found c.open_surveyed.ensures.means

@@ -1,22 +1,29 @@
-use Rattle.std.proofs.Common.{arith, rules}
-use Rattle.dk_snapshot.specs.Sizes.{known_size}
-use Rattle.dk_snapshot.proofs.StepReads.{read_more, read_stop, read_all}
+use Rattle.std.proofs.Common.{List, reverse, subst, sym, arith, refl, rules}
+use Rattle.std.specs.List.{AllByRecursion}
+use Rattle.dk_model.specs.declared.action.Action.{Action}
+use Rattle.dk_model.specs.ReadBack.{HasVersionsInRange}
+use Rattle.dk_snapshot.proofs.Effects.{kept_all}
+use Rattle.dk_snapshot.proofs.StepReads.{read_none, read_more, read_stop, read_all}
 use Rattle.dk_snapshot.proofs.steps.read_steps.Goals as goal
+
+pub loop-place-init : goal.loop-place-init
+loop-place-init g c = (search rules, search rules, read_none _ c.args.limit c.args.steps.now c.args.sizes.now _ c.new-found.result.items refl c.new-found.ensures.items, search rules, search rules, subst (λ (items : List Action). AllByRecursion HasVersionsInRange (reverse items)) (sym c.new-found.ensures.items) tt)
 
 pub loop-place-preserved : goal.loop-place-preserved
 loop-place-preserved g c = (
   search rules,
   search rules,
-  read_more _ _ (known_size c.args.sizes.now) c.args.limit c.args.steps.now c.loop-place.place c.index-steps-place.result c.loop-place.found.items c.push.new.self.items c.in-Ok.commit
-      (omega arith) (omega arith) c.index-steps-place.is (search rules) c.loop-place.invariant.0 c.loop-place.invariant.2 c.in-Ok.ensures.means,
+  read_more _ _ c.args.limit c.args.steps.now c.args.sizes.now c.loop-place.place c.index-steps-place.result c.size_at-size.result c.loop-place.found.items c.gather.new.newest_first.items c.in-Ok.commit
+      (omega arith) (omega arith) c.index-steps-place.is c.size_at-size.ensures (search rules) c.loop-place.invariant.0 c.loop-place.invariant.2 c.in-Ok.ensures.means,
   search rules,
   omega arith,
+  subst (λ (items : List Action). AllByRecursion HasVersionsInRange items) (sym (search rules)) (kept_all HasVersionsInRange c.in-Ok.commit (reverse c.loop-place.found.items) (search rules) c.loop-place.invariant.5),
 )
 
 pub returns-in-Err-clause-means : goal.returns-in-Err-clause-means
 returns-in-Err-clause-means g c =
-    read_stop _ _ (known_size c.args.sizes.now) c.args.limit c.args.steps.now c.loop-place.place c.index-steps-place.result _ _ (omega arith) (omega arith) c.index-steps-place.is c.loop-place.invariant.0
-    c.loop-place.invariant.2 c.in-Err.ensures.means
+    read_stop _ _ c.args.limit c.args.steps.now c.args.sizes.now c.loop-place.place c.index-steps-place.result c.size_at-size.result _ _ (omega arith) (omega arith) c.index-steps-place.is c.size_at-size.ensures
+    c.loop-place.invariant.0 c.loop-place.invariant.2 c.in-Err.ensures.means
 
 pub returns-clause-means : goal.returns-clause-means
-returns-clause-means g c = read_all _ (known_size c.args.sizes.now) c.args.limit c.args.steps.now c.loop-place.place c.loop-place.found.items (omega arith) c.loop-place.invariant.2
+returns-clause-means g c = read_all _ c.args.limit c.args.steps.now c.args.sizes.now c.loop-place.place c.loop-place.found.items (omega arith) c.loop-place.invariant.2

@@ -1,0 +1,61 @@
+-- Which versions open.
+use Rattle.std.proofs.Common.{◌≡◌, ℕ, ℤ, ◌≤◌, List, refl, ap, subst, ◌∙◌, Bool}
+use Rattle.std.specs.Prelude.{Option, Some, None, Result, Ok, Err, if◌then◌else◌}
+use Rattle.std.proofs.lemmas.Bool.{le-leb}
+use Rattle.dk_store.specs.Told.{Told}
+use Rattle.dk_store.specs.Standings.{standing}
+use Rattle.dk_model.specs.declared.state.TableState.{TableState}
+use Rattle.dk_lawful.specs.declared.segment.Choice.{Choice}
+use Rattle.dk_lawful.specs.declared.segment.Segment.{Segment}
+use Rattle.dk_lawful.specs.Segments.{IsKept, first_gap, segment_of}
+use Rattle.dk_engine.specs.declared.limits.Limits.{Limits}
+use Rattle.dk_engine.specs.declared.refusal.Refusal.{Refusal}
+use Rattle.dk_engine.specs.declared.refusal.Refusal.TheVariants.{Missing, NoVersion}
+use Rattle.dk_listing.specs.OfEvents.{stands_at, latest}
+use Rattle.dk_segment.specs.Chosen.{unless_gap}
+use Rattle.dk_snapshot.specs.declared.table.Snapshot.{Snapshot}
+use Rattle.dk_snapshot.specs.Asked.{version_asked}
+use Rattle.dk_snapshot.specs.Opening.{snapshot_with, read_of, opened_chosen, opened_asked}
+use Rattle.dk_snapshot.specs.KeptVersions.{OpenedIsKept, NotKeptIsMissing}
+
+-- the version of what is answered
+read_at : (version : ℕ) (segment : Segment) (read : Result (TableState × ℤ) Refusal) (snapshot : Snapshot) → snapshot_with version segment read ≡ Ok snapshot → version ≡ snapshot.version
+read_at version segment (Ok read) snapshot is = by (ok_same is)
+  where
+    made : Snapshot
+    made = record { version = version; state = read.0; cut = read.1; segment = segment }
+
+    ok_same : ◌≡◌ {A = Result Snapshot Refusal} (Ok made) (Ok snapshot) → made ≡ snapshot
+    ok_same e = cc
+
+    by : made ≡ snapshot → version ≡ snapshot.version
+    by e = ap (λ (s : Snapshot). s.version) e
+read_at version segment (Err refusal) snapshot is = absurd (let fails : ◌≡◌ {A = Result Snapshot Refusal} (Err refusal) (Ok snapshot) = is in cc)
+
+version_kept : (events : List Told) (limits : Limits) (choice : Choice) (now : ℤ) (version : ℕ) (snapshot : Snapshot) (gap : Option (List ℕ)) → first_gap (stands_at events) (standing events) version choice ≡ gap
+    → opened_chosen events limits now version (unless_gap (segment_of (stands_at events) (standing events) version choice) gap) ≡ Ok snapshot
+    → IsKept (stands_at events) (standing events) snapshot.version choice
+version_kept events limits choice now version snapshot None none is =
+    let segment : Segment = segment_of (stands_at events) (standing events) version choice in
+    subst (λ (v : ℕ). IsKept (stands_at events) (standing events) v choice) (read_at version segment (read_of events limits now segment) snapshot is) none
+version_kept events limits choice now version snapshot (Some path) none is = absurd (let fails : ◌≡◌ {A = Result Snapshot Refusal} (Err (Missing path)) (Ok snapshot) = is in cc)
+
+asked_kept : (events : List Told) (limits : Limits) (choice : Choice) (now : ℤ) (asked : Result ℕ Refusal) (snapshot : Snapshot) → opened_asked events limits choice now asked ≡ Ok snapshot
+    → IsKept (stands_at events) (standing events) snapshot.version choice
+asked_kept events limits choice now (Ok version) snapshot is = version_kept events limits choice now version snapshot (first_gap (stands_at events) (standing events) version choice) refl is
+asked_kept events limits choice now (Err refusal) snapshot is = absurd (let fails : ◌≡◌ {A = Result Snapshot Refusal} (Err refusal) (Ok snapshot) = is in cc)
+
+pub opened_is_kept : OpenedIsKept
+opened_is_kept events limits at choice now snapshot is = asked_kept events limits choice now (version_asked at (latest events)) snapshot is
+
+at_most : ℕ → ℕ → Bool → Result ℕ Refusal
+at_most version last test = if test then Ok version else Err (NoVersion last)
+
+within : (version last : ℕ) → version ≤ last → version_asked (Some version) (Some last) ≡ Ok version
+unfolding at_most
+within version last most = ap (at_most version last) (le-leb version last most)
+
+pub not_kept_is_missing : NotKeptIsMissing
+not_kept_is_missing events limits version last choice now path newest most gap =
+    ap (opened_asked events limits choice now) (ap (version_asked (Some version)) newest ∙ within version last most)
+    ∙ ap (λ (missing : Option (List ℕ)). opened_chosen events limits now version (unless_gap (segment_of (stands_at events) (standing events) version choice) missing)) gap
