@@ -1,0 +1,13 @@
+pub mod Cells
+pub mod ColumnView
+pub mod Depth
+pub mod Examining
+pub mod Faults
+pub mod Gives
+pub mod Inner
+pub mod LeafView
+pub mod Lays
+pub mod Meanings
+pub mod PlanView
+pub mod Scans
+pub mod Values

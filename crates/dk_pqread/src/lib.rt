@@ -1,0 +1,15 @@
+//! Rows of wanted columns out of the bytes of a Parquet file.
+#![tactic(auto)]
+
+mod bytes;
+mod column;
+mod cut;
+mod examine;
+mod fault;
+mod lay;
+mod leaf;
+mod names;
+mod plain;
+mod plan;
+mod scan;
+mod tree;
