@@ -4,26 +4,15 @@
 
 mod asked;
 mod catalogue;
-mod open;
+mod folding;
 mod opening;
-mod reading;
 mod sizes;
-mod snapshot;
 mod steps;
 mod support;
 mod table;
 mod usual;
-mod versions;
 
 pub use catalogue::survey;
 pub use opening::{open_at, open_listed};
 pub use table::Snapshot;
 pub use usual::usual_choice;
-
-/// Versions over commit files alone, whatever stands ratified.
-pub mod commits {
-    pub use crate::open::{open_at, open_listed};
-    pub use crate::reading::survey;
-    pub use crate::snapshot::Snapshot;
-    pub use crate::versions::latest;
-}

@@ -11,7 +11,7 @@ ghost use Rattle.dk_snapshot.specs.Steps.{AreSized};
 
 use crate::asked::asked_version;
 use crate::catalogue::survey;
-use crate::open::fold_all;
+use crate::folding::fold_all;
 use crate::steps::{oldest_path, read_listed};
 use crate::support::cut_of;
 use crate::table::Snapshot;

@@ -1,6 +1,6 @@
 use Rattle.std.proofs.Common.{◌≡◌, reverse, vec_len}
 use Rattle.dk_model.specs.State.{fold, steps_of_all}
-use Rattle.dk_snapshot.proofs.open.fold_all.Given as goal
+use Rattle.dk_snapshot.proofs.folding.fold_all.Given as goal
 
 -- the commits that are left, from the state so far on, lead where all commits lead
 abbrev pub invariant-loop-commit : goal.invariant-loop-commit
