@@ -28,7 +28,7 @@ fn commit(
     now: i64,
     base: u128,
 ) -> Result<Committed, Refusal>
-    ensures commits { IfSome (told (held engine.old.store)) (λ events. Commits (attempt events actions.now now base) events result (told (held engine.new.store))) }
+    ensures commits { IfSome (told (held engine.old.store)) (λ events. Commits (attempt events engine.old.limits actions.now now base) events result (told (held engine.new.store))) }
     ensures alike { is_some (told (held engine.new.store)) ≡ is_some (told (held engine.old.store)) }
     ensures limits { engine.new.limits ≡ engine.old.limits }
     ensures later { store_faults (held engine.old.store) ≤ store_faults (held engine.new.store) }
@@ -38,10 +38,12 @@ fn commit(
     ensures lawful { KeepsLawful (told (held engine.old.store)) (told (held engine.new.store)) }
     ensures history { IfBoth (told (held engine.old.store)) (told (held engine.new.store)) (SaysHistory (own_commit base actions.now) result) }
 {
+    let limits = engine.limits;
     commit_now(
         alloc,
         &mut *engine.store,
         &mut *engine.json,
+        limits,
         actions,
         now,
         base,
@@ -73,7 +75,7 @@ fn commit_actions<O: Sink>(
     now: i64,
     base: u128,
 ) -> Status
-    ensures answer { IfSome (told (held engine.old.store)) (λ events. CommitEnds (attempt events actions.now now base) events (O.taken out.old) result (O.taken out.new) (told (held engine.new.store))) }
+    ensures answer { IfSome (told (held engine.old.store)) (λ events. CommitEnds (attempt events engine.old.limits actions.now now base) events (O.taken out.old) result (O.taken out.new) (told (held engine.new.store))) }
     ensures alike { is_some (told (held engine.new.store)) ≡ is_some (told (held engine.old.store)) }
     ensures lawful { KeepsLawful (told (held engine.old.store)) (told (held engine.new.store)) }
     ensures history { IfBoth (told (held engine.old.store)) (told (held engine.new.store)) (SaysEnd (own_commit base actions.now) result (O.taken out.old) (O.taken out.new)) }
@@ -125,7 +127,7 @@ pub(crate) fn commit_command<I: Source, O: Sink>(
 ) -> Status
     requires { AreWithin engine.old.limits }
     ensures answer { IfSome (told (held engine.old.store)) (λ events. IfSome (I.left input.old) (λ left.
-        CommitAnswers (actions_of engine.old.limits left) (λ actions. attempt events actions now base) events (O.taken out.old) result (O.taken out.new) (told (held engine.new.store)))) }
+        CommitAnswers (actions_of engine.old.limits left) (λ actions. attempt events engine.old.limits actions now base) events (O.taken out.old) result (O.taken out.new) (told (held engine.new.store)))) }
     ensures read { result ≡ Status.Done → IfSome (I.left input.new) (λ left. left ≡ []) }
     ensures alike { is_some (told (held engine.new.store)) ≡ is_some (told (held engine.old.store)) }
     ensures lawful { KeepsLawful (told (held engine.old.store)) (told (held engine.new.store)) }

@@ -83,7 +83,7 @@ pub fn run<I: Source, O: Sink>(
     ensures whole_log { (at : Option ℕ) → AsksShow words.now at → IfSome (told (held engine.old.store))
         (λ events. ShowsLog events engine.old.limits at now (O.taken out.old) result (O.taken out.new)) }
     ensures commit { IsCommit words.now → IfSome (told (held engine.old.store)) (λ events. IfSome (I.left input.old) (λ left.
-        CommitAnswers (actions_of engine.old.limits left) (λ actions. attempt events actions now base) events (O.taken out.old) result (O.taken out.new) (told (held engine.new.store)))) }
+        CommitAnswers (actions_of engine.old.limits left) (λ actions. attempt events engine.old.limits actions now base) events (O.taken out.old) result (O.taken out.new) (told (held engine.new.store)))) }
     ensures lawful { KeepsLawful (told (held engine.old.store)) (told (held engine.new.store)) }
     ensures history { IsCommit words.now → IfSome (I.left input.old) (λ left. IfBoth (told (held engine.old.store)) (told (held engine.new.store))
         (InputSays (actions_of engine.old.limits left) base result (O.taken out.old) (O.taken out.new))) }

@@ -1,11 +1,8 @@
--- The greatest version and the first absent one: of a list of versions, and of a test that answers as the list does.
-use Rattle.std.specs.Prelude.{All, IfSome}
-use Rattle.std.specs.List.{AllByRecursion}
-use Rattle.std.proofs.lemmas.List.Elements.{recursion_from_All}
+-- The greatest version of a list, and of a test that answers as the list does.
 use Rattle.std.proofs.Common.{◌≡◌, ℕ, suc, zero, ◌+◌, ◌<◌, ◌≤◌, List, [], ◌∷◌, refl, ap, sym, ◌∙◌, Bool, true, false, arith, eq-eqb, inl, inr, max}
 use Rattle.std.specs.Prelude.{Some, None, ◌==◌, ◌||◌, ◌⊎◌}
 use Rattle.std.proofs.lemmas.Bool.Decides.{eqb_tells}
-use Rattle.dk_snapshot.specs.Plan.{greatest_below, first_failing}
+use Rattle.dk_snapshot.specs.Plan.{greatest_below}
 use Rattle.dk_snapshot.specs.Versions.{has_version, greatest_from, greatest}
 
 -- ---- a list of versions
@@ -73,12 +70,6 @@ unfolding greatest_below
 greatest_below-none test zero none = refl
 greatest_below-none test (suc v) none = let gone : test v ≡ false = none v (omega arith) in rw gone (greatest_below-none test v (λ w a. none w (omega arith)))
 
--- two tests that agree fail first alike
-pub first_failing-agree : (test other : ℕ → Bool) (v count : ℕ) → ((w : ℕ) → w < v + count → test w ≡ other w) → first_failing test v count ≡ first_failing other v count
-unfolding first_failing
-first_failing-agree test other v zero same = refl
-first_failing-agree test other v (suc count) same = let here : test v ≡ other v = same v (omega arith) in rw (here, first_failing-agree test other (suc v) count (λ w a. same w (omega arith))) refl
-
 none_true : (b : Bool) → (b ≡ true → ⊥) → b ≡ false
 none_true true never = absurd (never refl)
 none_true false _ = refl
@@ -97,24 +88,3 @@ greatest_below-list (v ∷ vs) test limit small same =
       | inr t ↦ omega (arith, top.1.all w t)
     ]) in
     greatest_below-is test limit n lt here above ∙ sym top.1.is
-
-pub first_failing-none : (test : ℕ → Bool) (v count : ℕ) → ((w : ℕ) → w < v + count → v ≤ w → test w ≡ true) → first_failing test v count ≡ None
-unfolding first_failing
-first_failing-none test v zero all = refl
-first_failing-none test v (suc count) all = let here : test v ≡ true = all v (omega arith) (omega arith) in rw here (first_failing-none test (suc v) count (λ w a b. all w (omega arith) (omega arith)))
-
--- each of these versions is below a limit that all are below
-pub small_of : (versions : List ℕ) (limit : ℕ) → All (λ v. v < limit) versions → (w : ℕ) → Has versions w → w < limit
-small_of versions limit small w has = below_of versions limit (recursion_from_All (λ v. v < limit) versions small) w has
-  where
-    below_of : (vs : List ℕ) (limit : ℕ) → AllByRecursion (λ v. v < limit) vs → (w : ℕ) → Has vs w → w < limit
-    below_of [] limit all w has = cc
-    below_of (v ∷ vs) limit all w has = elim (has_cases v w vs has) [ inl e ↦ omega (arith, all.0) | inr t ↦ below_of vs limit all.1 w t ]
-
--- and so is the greatest
-pub greatest-small : (versions : List ℕ) (limit : ℕ) → All (λ v. v < limit) versions → IfSome (greatest versions) (λ n. n < limit)
-greatest-small [] limit small = tt
-greatest-small (v ∷ vs) limit small =
-    let top : (n : ℕ) × IsGreatest v vs n = greatest_after v vs in
-    let found : Has (v ∷ vs) top.0 = elim top.1.found [ inl e ↦ has_head v top.0 vs e | inr t ↦ has_tail v top.0 vs t ] in
-    rw top.1.is (small_of (v ∷ vs) limit small top.0 found)

@@ -1,9 +1,4 @@
-pub mod Gaps
 pub mod Greatest
-pub mod Named
-pub mod NewestFirst
-pub mod Planned
-pub mod Surveyed
 pub mod History
 pub mod SizeMaps
 pub mod StepReads

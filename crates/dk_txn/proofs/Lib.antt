@@ -1,4 +1,5 @@
 pub mod Next
+pub mod NotAbove
 pub mod ReadHistory
 pub mod Readable
 pub mod RuleWalks

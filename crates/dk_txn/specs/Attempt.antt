@@ -1,5 +1,5 @@
 -- What a commit over a log is to write, or why it is refused (Delta Lake's PROTOCOL.md, "Delta Log Entries", "Requirements for Writers").
-use Rattle.std.specs.Prelude.{ℕ, ℤ, ◌+◌, ◌-◌, ◌^◌, ◌==◌, List, ◌∷◌, ◌++◌, Option, Some, None, Result, Ok, Err, if◌then◌else◌, codes, decimal}
+use Rattle.std.specs.Prelude.{ℕ, ℤ, ◌+◌, ◌-◌, ◌^◌, ◌==◌, List, ◌∷◌, ◌++◌, Option, Some, None, Result, Ok, Err, length, if◌then◌else◌, codes, decimal}
 use Rattle.dk_store.specs.Told.{Told}
 use Rattle.dk_model.specs.declared.action.Action.{Action}
 use Rattle.dk_model.specs.declared.action.Protocol.{Protocol}
@@ -7,13 +7,15 @@ use Rattle.dk_model.specs.State.{empty_state}
 use Rattle.dk_model.specs.ReadBack.{own_info}
 use Rattle.dk_model.specs.Written.{own_info_line, text_of}
 use Rattle.dk_paths.specs.Numbers.{id_text}
-use Rattle.dk_engine.specs.declared.limits.Which.TheVariants as limits
+use Rattle.dk_engine.specs.declared.limits.Limits.{Limits}
+use Rattle.dk_engine.specs.declared.limits.Which.TheVariants as which
 use Rattle.dk_engine.specs.declared.refusal.Refusal.{Refusal}
 use Rattle.dk_engine.specs.declared.refusal.Refusal.TheVariants as refusals
-use Rattle.dk_snapshot.specs.declared.snapshot.Snapshot.{Snapshot}
-use Rattle.dk_snapshot.specs.Opened.{opened}
-use Rattle.dk_snapshot.specs.Plan.{stands, greatest_below}
 use Rattle.dk_lawful.specs.Rules.{first_broken}
+use Rattle.dk_listing.specs.OfEvents.{latest}
+use Rattle.dk_snapshot.specs.declared.table.Snapshot.{Snapshot}
+use Rattle.dk_snapshot.specs.Opening.{opened, usual_choice}
+use Rattle.dk_snapshot.specs.Steps.{fits, if_fits}
 use Rattle.dk_txn.specs.declared.start.Start.{Start}
 
 -- ---- what a commit comes after
@@ -26,13 +28,14 @@ abbrev pub after_snapshot : Result Snapshot Refusal → Result Start Refusal
 after_snapshot (Ok snapshot) = Ok (record { version = snapshot.version + 1; before = snapshot.state })
 after_snapshot (Err refusal) = Err refusal
 
--- by the greatest version whose commit stands: nothing, or the latest version, and nothing comes after the greatest that there can be
-abbrev pub start_after : List Told → ℤ → Option ℕ → Result Start Refusal
-start_after events now None = Ok (record { version = 0; before = empty_state })
-start_after events now (Some latest) = if latest == last_version then Err (refusals.Limit limits.Version last_version) else after_snapshot (opened events None now)
+-- by the latest version: nothing, or that version, and nothing comes after the greatest that there can be
+abbrev pub start_after : List Told → Limits → ℤ → Option ℕ → Result Start Refusal
+start_after events limits now None = Ok (record { version = 0; before = empty_state })
+start_after events limits now (Some last) =
+    if last == last_version then Err (refusals.Limit which.Version last_version) else after_snapshot (opened events limits None usual_choice now)
 
-abbrev pub start : List Told → ℤ → Result Start Refusal
-start events now = start_after events now (greatest_below (stands events) (2 ^ 63))
+abbrev pub start : List Told → Limits → ℤ → Result Start Refusal
+start events limits now = start_after events limits now (latest events)
 
 -- ---- whether it may come there
 
@@ -63,14 +66,18 @@ allowed from actions id = verdict (unsupported from.before.protocol) (first_brok
 abbrev pub Writing : Type 0
 Writing = ℕ × List ℕ
 
-abbrev pub if_allowed : Result (Unit {0}) Refusal → Writing → Result Writing Refusal
-if_allowed (Ok u) writing = Ok writing
+-- a text over the limit of objects isn't written
+abbrev pub if_within : ℕ → Writing → Result Writing Refusal
+if_within limit writing = if_fits (fits limit (Some (length writing.1))) (Ok writing)
+
+abbrev pub if_allowed : Result (Unit {0}) Refusal → Result Writing Refusal → Result Writing Refusal
+if_allowed (Ok u) writing = writing
 if_allowed (Err refusal) writing = Err refusal
 
-abbrev pub attempt_from : Result Start Refusal → List Action → ℤ → ℕ → Result Writing Refusal
-attempt_from (Ok from) actions now id = if_allowed (allowed from actions id) (from.version, commit_text id now actions)
-attempt_from (Err refusal) actions now id = Err refusal
+abbrev pub attempt_from : Result Start Refusal → Limits → List Action → ℤ → ℕ → Result Writing Refusal
+attempt_from (Ok from) limits actions now id = if_allowed (allowed from actions id) (if_within limits.object (from.version, commit_text id now actions))
+attempt_from (Err refusal) limits actions now id = Err refusal
 
 -- what a commit over these events is to write, or why it is refused
-abbrev pub attempt : List Told → List Action → ℤ → ℕ → Result Writing Refusal
-attempt events actions now id = attempt_from (start events now) actions now id
+abbrev pub attempt : List Told → Limits → List Action → ℤ → ℕ → Result Writing Refusal
+attempt events limits actions now id = attempt_from (start events limits now) limits actions now id

@@ -3,12 +3,12 @@ ghost use Rattle.std.specs.Prelude.{◌≡◌, ◌≤◌, ◌<◌, ◌^◌, ℕ,
 ghost use Rattle.dk_store.specs.Causes.{Rose};
 ghost use Rattle.dk_model.specs.CommitText.{commit_of};
 ghost use Rattle.dk_engine.specs.Answers.{Gives};
-ghost use Rattle.dk_txn.specs.Attempt.{own_commit, unsupported, allowed, attempt_from, attempt};
+ghost use Rattle.dk_txn.specs.Attempt.{own_commit, unsupported, allowed, if_within, attempt_from, attempt};
 
 use crate::rules::first_broken;
 use crate::start::{Start, find_start};
 use crate::text::commit_text;
-use dk_engine::{JsonHandler, Refusal};
+use dk_engine::{JsonHandler, Limits, Refusal, Which};
 use dk_model::{Action, Protocol, Text};
 use dk_store::Store;
 use std::alloc::{AllocError, Global};
@@ -50,16 +50,35 @@ fn check(alloc: Global, from: &Start, actions: &[Action]) -> Result<(), Refusal>
     }
 }
 
+/// A text to write, unless it is greater than an object may be, in bytes.
+fn within(limit: u64, version: u64, text: Vec<u8>) -> Result<Writing, Refusal>
+    ensures means { Gives (λ w. (w.version, w.text.items)) result (if_within limit (version, text.items)) }
+    ensures version { IfOk result (λ w. w.version ≡ version) }
+    ensures text { IfOk result (λ w. w.text.items ≡ text.items) }
+    ensures store { result ≡ Err Refusal.Store → ⊥ }
+    ensures taken { (path : List ℕ) → result ≡ Err (Refusal.Taken path) → ⊥ }
+{
+    let size = text.len() as u64;
+    if limit < size {
+        return Err(Refusal::Limit {
+            which: Which::Object,
+            value: size,
+        });
+    }
+    Ok(Writing { version, text })
+}
+
 /// What a commit from there on is to write.
 fn writing_from(
     alloc: Global,
     json: &mut dyn JsonHandler,
+    limits: Limits,
     from: &Start,
     actions: &[Action],
     now: i64,
     id: u128,
 ) -> Result<Writing, Refusal>
-    ensures means { Gives (λ w. (w.version, w.text.items)) result (attempt_from (Ok from.now) actions.now now id) }
+    ensures means { Gives (λ w. (w.version, w.text.items)) result (attempt_from (Ok from.now) limits actions.now now id) }
     ensures reads_back { IfOk result (λ w. commit_of w.text.items ≡ Some (own_commit id actions.now)) }
     ensures version { IfOk result (λ w. w.version ≡ from.now.version) }
     ensures store { result ≡ Err Refusal.Store → ⊥ }
@@ -67,10 +86,10 @@ fn writing_from(
 {
     match check(alloc, from, actions) {
         Err(refusal) => Err(refusal),
-        Ok(()) => Ok(Writing {
-            version: from.version,
-            text: commit_text(alloc, json, actions, now, id)?,
-        }),
+        Ok(()) => {
+            let text = commit_text(alloc, json, actions, now, id)?;
+            within(limits.object, from.version, text)
+        }
     }
 }
 
@@ -79,6 +98,7 @@ pub(crate) fn attempt(
     alloc: Global,
     store: &mut dyn Store,
     json: &mut dyn JsonHandler,
+    limits: Limits,
     actions: &[Action],
     now: i64,
     id: u128,
@@ -88,12 +108,12 @@ pub(crate) fn attempt(
     ensures later { store_faults store.old ≤ store_faults store.new }
     ensures store { result ≡ Err Refusal.Store → Rose (store_faults store.old) (store_faults store.new) }
     ensures taken { (path : List ℕ) → result ≡ Err (Refusal.Taken path) → ⊥ }
-    ensures means { IfSome (told store.old) (λ events. Gives (λ w. (w.version, w.text.items)) result (attempt events actions.now now id)) }
+    ensures means { IfSome (told store.old) (λ events. Gives (λ w. (w.version, w.text.items)) result (attempt events limits actions.now now id)) }
     ensures reads_back { IfOk result (λ w. commit_of w.text.items ≡ Some (own_commit id actions.now)) }
     ensures small { IfOk result (λ w. w.version < 2 ^ 63) }
 {
-    match find_start(alloc, store, json, now) {
+    match find_start(alloc, store, json, limits, now) {
         Err(refusal) => Err(refusal),
-        Ok(from) => writing_from(alloc, json, &from, actions, now, id),
+        Ok(from) => writing_from(alloc, json, limits, &from, actions, now, id),
     }
 }

@@ -13,7 +13,7 @@ ghost use Rattle.dk_txn.specs.Attempt.{own_commit, attempt};
 ghost use Rattle.dk_txn.specs.Commits.{ComesNext, Commits, SaysHistory};
 
 use crate::attempt::{Writing, attempt};
-use dk_engine::{JsonHandler, Refusal};
+use dk_engine::{JsonHandler, Limits, Refusal};
 use dk_model::{Action, Text};
 use dk_paths::commit_path;
 use dk_store::{Put, Store, StoreError};
@@ -75,11 +75,12 @@ fn commit_once(
     alloc: Global,
     store: &mut dyn Store,
     json: &mut dyn JsonHandler,
+    limits: Limits,
     actions: &[Action],
     now: i64,
     id: u128,
 ) -> Result<Committed, Refusal>
-    ensures commits { IfSome (told store.old) (λ events. Commits (attempt events actions.now now id) events result (told store.new)) }
+    ensures commits { IfSome (told store.old) (λ events. Commits (attempt events limits actions.now now id) events result (told store.new)) }
     ensures alike { is_some (told store.new) ≡ is_some (told store.old) }
     ensures later { store_faults store.old ≤ store_faults store.new }
     ensures clashes_later { clashes store.old ≤ clashes store.new }
@@ -88,7 +89,7 @@ fn commit_once(
     ensures lawful { KeepsLawful (told store.old) (told store.new) }
     ensures history { IfBoth (told store.old) (told store.new) (SaysHistory (own_commit id actions.now) result) }
 {
-    match attempt(alloc, store, json, actions, now, id) {
+    match attempt(alloc, store, json, limits, actions, now, id) {
         Err(refusal) => Err(refusal),
         Ok(writing) => write(alloc, store, &writing, now),
     }
@@ -98,24 +99,26 @@ fn commit_once(
 /// Entries").
 ///
 /// `now` is the moment of the call in milliseconds since 1970-01-01T00:00:00Z, and `id` the id of the transaction, which
-/// the commit's first line has in lower case with hyphens. The log is listed once and each of its commits read once;
-/// then the whole text is made, and put where nothing stands. Where another writer was there first, all begins again
-/// once.
+/// the commit's first line has in lower case with hyphens. The log, its staged commits and the catalogue are listed once
+/// each, and each commit of the latest version is read once; then the whole text is made, and put where nothing stands.
+/// Where another writer was there first, all begins again once.
 ///
 /// `commits` says which event is added, and exactly when each refusal comes; `lawful` and `history` say the same in the
-/// subject's own words: the log stays lawful, and has this commit more, at the answered version. Refusals that add
-/// nothing: those of opening the latest version, `Limit` where no version can follow, `Unsupported` where the table
-/// asks for another writer version than 1, `Invalid` where a rule is broken, `Taken` where two other writers
-/// were there first.
+/// subject's own words: the log stays lawful, and has this commit more, at the answered version. Beside faults of the
+/// store and want of memory these refusals add nothing, in this order: `Limit` of `Version` where no version can follow,
+/// those of opening the latest version, as [`dk_snapshot::open_at`] names them, `Unsupported` where the table asks for
+/// another writer version than 1, `Invalid` where a rule is broken, `Limit` of `Object` where the text is greater than
+/// `limits.object` bytes, `Taken` where two other writers were there first.
 pub fn commit_now(
     alloc: Global,
     store: &mut dyn Store,
     json: &mut dyn JsonHandler,
+    limits: Limits,
     actions: &[Action],
     now: i64,
     id: u128,
 ) -> Result<Committed, Refusal>
-    ensures commits { IfSome (told store.old) (λ events. Commits (attempt events actions.now now id) events result (told store.new)) }
+    ensures commits { IfSome (told store.old) (λ events. Commits (attempt events limits actions.now now id) events result (told store.new)) }
     ensures alike { is_some (told store.new) ≡ is_some (told store.old) }
     ensures later { store_faults store.old ≤ store_faults store.new }
     ensures clashes_later { clashes store.old ≤ clashes store.new }
@@ -126,8 +129,8 @@ pub fn commit_now(
     ensures lawful { KeepsLawful (told store.old) (told store.new) }
     ensures history { IfBoth (told store.old) (told store.new) (SaysHistory (own_commit id actions.now) result) }
 {
-    match commit_once(alloc, store, json, actions, now, id) {
-        Err(Refusal::Taken { .. }) => commit_once(alloc, store, json, actions, now, id),
+    match commit_once(alloc, store, json, limits, actions, now, id) {
+        Err(Refusal::Taken { .. }) => commit_once(alloc, store, json, limits, actions, now, id),
         answer => answer,
     }
 }

@@ -1,14 +1,15 @@
 //! What a commit comes after.
-ghost use Rattle.std.specs.Prelude.{◌≡◌, ◌≤◌, ◌<◌, ◌^◌, ◌+◌, ℕ, List, All, Err, IfOk, IfSome};
+ghost use Rattle.std.specs.Prelude.{◌≡◌, ◌≤◌, ◌<◌, ◌^◌, ◌+◌, ℕ, List, Err, IfOk, IfSome};
 ghost use Rattle.dk_store.specs.Causes.{Rose};
 ghost use Rattle.dk_engine.specs.Answers.{Gives};
-ghost use Rattle.dk_snapshot.specs.Listed.{ListsVersions};
+ghost use Rattle.dk_listing.specs.OfEvents.{IsListingOf};
 ghost use Rattle.dk_txn.specs.Attempt.{start};
 
-use dk_engine::{JsonHandler, Refusal, Which};
+use dk_engine::{JsonHandler, Limits, Refusal, Which};
+use dk_listing::Catalogued;
 use dk_model::TableState;
 use dk_paths::MAX_VERSION;
-use dk_snapshot::commits::{Snapshot, latest, open_listed, survey};
+use dk_snapshot::{Snapshot, open_listed, survey, usual_choice};
 use dk_store::Store;
 use std::alloc::Global;
 
@@ -33,24 +34,24 @@ fn after(snapshot: Snapshot) -> Start
     }
 }
 
-/// What a commit comes after, by the versions that a survey found.
+/// What a commit comes after, by the listing that a survey found.
 fn start_listed(
     alloc: Global,
     store: &mut dyn Store,
     json: &mut dyn JsonHandler,
-    versions: &[u64],
+    limits: Limits,
+    listing: &Catalogued,
     now: i64,
 ) -> Result<Start, Refusal>
-    requires { All (λ version. version < 2 ^ 63) versions.now }
     ensures same { told store.new ≡ told store.old }
     ensures clashes { clashes store.new ≡ clashes store.old }
     ensures later { store_faults store.old ≤ store_faults store.new }
     ensures store { result ≡ Err Refusal.Store → Rose (store_faults store.old) (store_faults store.new) }
     ensures taken { (path : List ℕ) → result ≡ Err (Refusal.Taken path) → ⊥ }
-    ensures means { IfSome (told store.old) (λ events. ListsVersions events versions.now → Gives (λ from. from) result (start events now)) }
+    ensures means { IfSome (told store.old) (λ events. IsListingOf events listing.now → Gives (λ from. from) result (start events limits now)) }
     ensures small { IfOk result (λ from. from.version < 2 ^ 63) }
 {
-    let Some(latest) = latest(versions) else {
+    let Some(latest) = listing.latest() else {
         return Ok(Start {
             version: 0,
             before: TableState::new(alloc),
@@ -62,17 +63,19 @@ fn start_listed(
             value: MAX_VERSION,
         });
     }
-    match open_listed(alloc, store, json, versions, None, now) {
+    let choice = usual_choice();
+    match open_listed(alloc, store, json, limits, listing, None, &choice, now) {
         Err(refusal) => Err(refusal),
         Ok(snapshot) => Ok(after(snapshot)),
     }
 }
 
-/// What a commit comes after: lists the log once, and reads each of its commits once.
+/// What a commit comes after: lists the log, its staged commits and the catalogue once each, and reads each commit once.
 pub(crate) fn find_start(
     alloc: Global,
     store: &mut dyn Store,
     json: &mut dyn JsonHandler,
+    limits: Limits,
     now: i64,
 ) -> Result<Start, Refusal>
     ensures same { told store.new ≡ told store.old }
@@ -80,11 +83,11 @@ pub(crate) fn find_start(
     ensures later { store_faults store.old ≤ store_faults store.new }
     ensures store { result ≡ Err Refusal.Store → Rose (store_faults store.old) (store_faults store.new) }
     ensures taken { (path : List ℕ) → result ≡ Err (Refusal.Taken path) → ⊥ }
-    ensures means { IfSome (told store.old) (λ events. Gives (λ from. from) result (start events now)) }
+    ensures means { IfSome (told store.old) (λ events. Gives (λ from. from) result (start events limits now)) }
     ensures small { IfOk result (λ from. from.version < 2 ^ 63) }
 {
     match survey(alloc, store) {
         Err(refusal) => Err(refusal),
-        Ok(versions) => start_listed(alloc, store, json, &versions, now),
+        Ok(listing) => start_listed(alloc, store, json, limits, &listing, now),
     }
 }

@@ -1,7 +1,7 @@
 //! Commits over stores in memory, as worked examples say.
 
 use crate::{Committed, commit_now};
-use dk_engine::Refusal;
+use dk_engine::{Limits, Refusal, Which};
 use dk_handlers::SerdeJson;
 use dk_model::{Action, Commit};
 use dk_store::{Call, Fault, How, MemStore, Put, Store};
@@ -52,25 +52,34 @@ enum End {
     Unsupported,
     Broken(u8),
     Taken,
+    Missing,
+    Greater(u64),
     Other,
 }
 
-fn end_of(store: &mut MemStore, alloc: Global, actions: &[Action]) -> End {
+fn end_of(store: &mut MemStore, alloc: Global, limits: Limits, actions: &[Action]) -> End {
     let mut json = SerdeJson::new();
-    match commit_now(alloc, store, &mut json, actions, 1000, 32) {
+    match commit_now(alloc, store, &mut json, limits, actions, 1000, 32) {
         Ok(committed) => End::Version(committed.version),
         Err(Refusal::Store) => End::Store,
         Err(Refusal::Unsupported { .. }) => End::Unsupported,
         Err(Refusal::Invalid { rule }) => End::Broken(rule),
         Err(Refusal::Taken { .. }) => End::Taken,
+        Err(Refusal::Missing { .. }) => End::Missing,
+        Err(
+            Refusal::Limit {
+                which: Which::Object,
+                value,
+            },
+        ) => End::Greater(value),
         Err(_) => End::Other,
     }
 }
 
-/// Commits these lines, and tells how it ended.
+/// Commits these lines under the usual limits, and tells how it ended.
 fn commit_lines(alloc: Global, store: &mut MemStore, lines: &[&str]) -> Result<End, Fail> {
     let commit = actions_of(alloc, lines)?;
-    Ok(end_of(store, alloc, commit.as_slice()))
+    Ok(end_of(store, alloc, Limits::usual(), commit.as_slice()))
 }
 
 /// Whether the object of this path has exactly these lines.
@@ -151,8 +160,158 @@ fn a_table_of_writer_version_2_is_left_alone(rt: HostRuntime) -> Result<(), Fail
     assert!(rt; put == Ok(Put::Made));
     let commit = actions_of(alloc, &[ADD_A])?;
     let mut json = SerdeJson::new();
-    let answer = commit_now(alloc, &mut store, &mut json, commit.as_slice(), 1000, 32);
+    let limits = Limits::usual();
+    let answer = commit_now(
+        alloc,
+        &mut store,
+        &mut json,
+        limits,
+        commit.as_slice(),
+        1000,
+        32,
+    );
     let asked = asks_for(&answer, "minWriterVersion 2");
     assert!(rt; asked);
+    Ok(())
+}
+
+const THIRD: &str = "_delta_log/00000000000000000002.json";
+
+const CHECKPOINT: &str = "_delta_log/00000000000000000001.checkpoint.parquet";
+
+const STAGED: &str =
+    "_delta_log/_staged_commits/00000000000000000001.0a1b2c3d-4e5f-4678-9abc-def012345678.json";
+
+const STAGED_NAME: &str = "00000000000000000001.0a1b2c3d-4e5f-4678-9abc-def012345678.json";
+
+const ADD_B: &str =
+    "{\"add\":{\"dataChange\":true,\"modificationTime\":5,\"partitionValues\":{},\"path\":\"b\",\"size\":1}}\n";
+
+const ADD_WITH_VECTOR: &str =
+    "{\"add\":{\"dataChange\":true,\"deletionVector\":{},\"modificationTime\":5,\"partitionValues\":{},\"path\":\"a\",\"size\":1}}\n";
+
+const MONTHS: &str =
+    "{\"metaData\":{\"configuration\":{\"delta.deletedFileRetentionDuration\":\"interval 2 months\"},\"format\":{\"options\":{},\"provider\":\"parquet\"},\"id\":\"t\",\"partitionColumns\":[],\"schemaString\":\"{}\"}}\n";
+
+/// A log, whether its staged commit of version 1 stands ratified, the limit of objects in bytes, how the commit of the file
+/// b over it ends, and the path that it is put at, if it is.
+struct Case {
+    name: &'static str,
+    objects: &'static [(&'static str, &'static [&'static str])],
+    ratified: bool,
+    limit: u64,
+    end: End,
+    path: &'static str,
+}
+
+const CASES: [Case; 9] = [
+    Case {
+        name: "after a version that stands ratified",
+        objects: &[(FIRST, &[PROTOCOL, METADATA]), (STAGED, &[ADD_A])],
+        ratified: true,
+        limit: 1000,
+        end: End::Version(2),
+        path: THIRD,
+    },
+    Case {
+        name: "a staged commit that isn't ratified is no version",
+        objects: &[(FIRST, &[PROTOCOL, METADATA]), (STAGED, &[ADD_A])],
+        ratified: false,
+        limit: 1000,
+        end: End::Version(1),
+        path: SECOND,
+    },
+    Case {
+        name: "a gap",
+        objects: &[(FIRST, &[PROTOCOL, METADATA]), (THIRD, &[ADD_A])],
+        ratified: false,
+        limit: 1000,
+        end: End::Missing,
+        path: "",
+    },
+    Case {
+        name: "a log whose commits are gone isn't empty",
+        objects: &[(CHECKPOINT, &[])],
+        ratified: false,
+        limit: 1000,
+        end: End::Missing,
+        path: "",
+    },
+    Case {
+        name: "a commit that is read is greater than the limit",
+        objects: &[(FIRST, &[PROTOCOL, METADATA])],
+        ratified: false,
+        limit: 186,
+        end: End::Greater(187),
+        path: "",
+    },
+    Case {
+        name: "the commit's own text is greater than the limit",
+        objects: &[(FIRST, &[PROTOCOL, METADATA])],
+        ratified: false,
+        limit: 192,
+        end: End::Greater(193),
+        path: "",
+    },
+    Case {
+        name: "it is as great as the limit",
+        objects: &[(FIRST, &[PROTOCOL, METADATA])],
+        ratified: false,
+        limit: 193,
+        end: End::Version(1),
+        path: SECOND,
+    },
+    Case {
+        name: "a live file with a deletion vector",
+        objects: &[(FIRST, &[PROTOCOL, METADATA, ADD_WITH_VECTOR])],
+        ratified: false,
+        limit: 1000,
+        end: End::Unsupported,
+        path: "",
+    },
+    Case {
+        name: "a retention of months",
+        objects: &[(FIRST, &[PROTOCOL, MONTHS])],
+        ratified: false,
+        limit: 1000,
+        end: End::Unsupported,
+        path: "",
+    },
+];
+
+/// A store with the log of a case.
+fn store_of(alloc: Global, case: &Case) -> Result<MemStore, Fail> {
+    let mut store = MemStore::new(alloc);
+    for (path, lines) in case.objects {
+        let text = joined(alloc, lines)?;
+        let _ = store.put_new(path, &text, 0);
+    }
+    if case.ratified {
+        let _ = store.ratify(1, STAGED_NAME);
+    }
+    Ok(store)
+}
+
+#[test]
+fn a_commit_comes_after_the_latest_version_that_can_be_opened(rt: HostRuntime) -> Result<(), Fail> {
+    let alloc = rt.alloc();
+    let usual = Limits::usual();
+    let commit = actions_of(alloc, &[ADD_B])?;
+    for case in &CASES {
+        let name = case.name;
+        let mut store = store_of(alloc, case)?;
+        let limits = Limits {
+            object: case.limit,
+            input: usual.input,
+            line: usual.line,
+            lines: usual.lines,
+        };
+        let end = end_of(&mut store, alloc, limits, commit.as_slice());
+        assert_eq!(rt; end, case.end, "{name}");
+        if !case.path.is_empty() {
+            let whole = holds(alloc, &mut store, case.path, &[OWN, ADD_B])?;
+            assert!(rt; whole, "{name}");
+        }
+    }
     Ok(())
 }

@@ -5,13 +5,15 @@ use Rattle.dk_txn.proofs.Starts.{start_none, start_last, start_refused, start_op
 use Rattle.dk_txn.proofs.start.start_listed.Goals as goal
 
 pub returns-in_default-clause-means : goal.returns-in_default-clause-means
-returns-in_default-clause-means g c = start_none _ _ c.args.versions.now c.latest.result c.new.result c.requires c.latest.ensures.value (search rules) c.new.ensures
+returns-in_default-clause-means g c = start_none c.args.limits c.args.now c.args.listing.now c.latest.result c.latest.ensures.value _ c.new.result (search rules) c.new.ensures
 
 pub returns-then-latest-eq-MAX_VERSION-clause-means : goal.returns-then-latest-eq-MAX_VERSION-clause-means
-returns-then-latest-eq-MAX_VERSION-clause-means g c = start_last _ _ c.args.versions.now c.latest.result c.in-Some.latest c.requires c.latest.ensures.value c.in-Some.is (search rules)
+returns-then-latest-eq-MAX_VERSION-clause-means g c = start_last c.args.limits c.args.now c.args.listing.now c.latest.result c.latest.ensures.value _ c.in-Some.latest c.in-Some.is (search rules)
 
 pub returns-in-Err-clause-means : goal.returns-in-Err-clause-means
-returns-in-Err-clause-means g c = start_refused _ c.args.now _ (to_z-of_z w64 c.args.now c.ranges.now) c.args.versions.now c.latest.result c.in-Some.latest c.in-Err.refusal c.requires c.latest.ensures.value c.in-Some.is (search rules) c.in-Err.ensures.means
+returns-in-Err-clause-means g c = start_refused c.args.limits c.args.now c.args.listing.now c.latest.result c.latest.ensures.value _ c.usual_choice-choice.result _ c.in-Some.latest c.in-Err.refusal c.usual_choice-choice.ensures
+    (to_z-of_z w64 c.args.now c.ranges.now) c.in-Some.is (search rules) c.in-Err.ensures.means
 
 pub returns-in-Ok-clause-means : goal.returns-in-Ok-clause-means
-returns-in-Ok-clause-means g c = start_opened _ c.args.now _ (to_z-of_z w64 c.args.now c.ranges.now) c.args.versions.now c.latest.result c.in-Some.latest c.in-Ok.snapshot c.after.result c.requires c.latest.ensures.value c.in-Some.is (search rules) c.after.ensures.version c.after.ensures.before c.in-Ok.ensures.means
+returns-in-Ok-clause-means g c = start_opened c.args.limits c.args.now c.args.listing.now c.latest.result c.latest.ensures.value _ c.usual_choice-choice.result _ c.in-Some.latest c.in-Ok.snapshot c.after.result c.usual_choice-choice.ensures
+    (to_z-of_z w64 c.args.now c.ranges.now) c.in-Some.is (search rules) c.after.ensures.version c.after.ensures.before c.in-Ok.ensures.means
