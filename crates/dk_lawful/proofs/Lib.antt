@@ -16,6 +16,7 @@ pub mod OnTexts
 pub mod OneMeaning
 pub mod Puts
 pub mod ReadLog
+pub mod RowExample
 pub mod Sound
 pub mod SoundDeleted
 pub mod SoundMade

@@ -19,6 +19,7 @@ pub mod Managed
 pub mod MoreExamples
 pub mod Permits
 pub mod Present
+pub mod RowExample
 pub mod Rules
 pub mod Segments
 pub mod Shares

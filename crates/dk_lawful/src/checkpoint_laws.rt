@@ -6,6 +6,7 @@ ghost use Rattle.dk_lawful.specs.CheckpointLaws.{CheckpointMeansOne, PartsStand,
 ghost use Rattle.dk_lawful.specs.ContentLaws.{ClassicMayBeMade, ClassicStands, PartHasShare, PartMayBeMade, ShareComposes, SidecarsHaveFiles, StandingComposes, V2MayBeMade, V2SaysVersion, V2Stands};
 ghost use Rattle.dk_lawful.specs.Example.{IsForbidden, example, first_text, managed_text, ratifying, staged_name_1, staging};
 ghost use Rattle.dk_lawful.specs.MoreExamples.{IsLawfulAfter, side_name};
+ghost use Rattle.dk_lawful.specs.RowExample.{RowsMean};
 ghost use Rattle.dk_paths.specs.Names.{commit_path};
 ghost use Rattle.dk_paths.specs.Places.{Classic, Compacted, Part, Sidecar, Staged, V2, place_path};
 ghost use Rattle.dk_paths.specs.Staged.{staged_name};
@@ -43,6 +44,12 @@ pub fn contents_may_be_made()
     ensures part { PartMayBeMade }
     ensures classic { ClassicMayBeMade }
     ensures v2 { V2MayBeMade }
+{}
+
+/// Rows of checkpoints and the actions that they mean: one of each kind, files without a deletion vector, with an empty
+/// one and with one, a row that says nothing, and rows that are no action (Delta Lake's PROTOCOL.md, "Checkpoint Schema").
+pub fn example_rows()
+    ensures mean { RowsMean }
 {}
 
 /// The example goes on with two checkpoints of the form V2 in JSON, of either version, after a compacted file; then the

@@ -10,7 +10,7 @@ mod segment;
 
 pub use actor_laws::others_stay_fit;
 pub use checkpoint_laws::{
-    checkpoints_come_and_go, checkpoints_stand, contents_may_be_made, contents_stand,
+    checkpoints_come_and_go, checkpoints_stand, contents_may_be_made, contents_stand, example_rows,
     forbidden_checkpoints,
 };
 pub use id_laws::ids_stand_once;
