@@ -8,11 +8,8 @@ pub mod Failing
 pub mod FileNodes
 pub mod Going
 pub mod Laying
-pub mod LevelLaws
 pub mod Opening
 pub mod PartLaws
 pub mod PlainLaws
 pub mod PlainSteps
 pub mod Scanning
-pub mod ValueLaws
-pub mod Zips

@@ -6,8 +6,8 @@ pub mod Faults
 pub mod Gives
 pub mod Inner
 pub mod LeafView
+pub mod Laws
 pub mod Lays
-pub mod Meanings
 pub mod PlanView
 pub mod Scans
 pub mod Values

@@ -6,10 +6,13 @@ mod column;
 mod cut;
 mod examine;
 mod fault;
+pub mod laws;
 mod lay;
 mod leaf;
 mod names;
 mod plain;
 mod plan;
 mod scan;
+#[cfg(test)]
+mod tests;
 mod tree;
