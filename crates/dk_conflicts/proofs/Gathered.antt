@@ -5,7 +5,6 @@ use Rattle.std.specs.Borrow.{Bor}
 use Rattle.std.specs.declared.cmp.Ordering.{Ordering}
 use Rattle.std.specs.Ordering.{is_eq}
 use Rattle.std.specs.Cmp.Lexicographic.{slice_cmp}
-use Rattle.std.specs.BTreeMap.{is_at}
 use Rattle.std.specs.BTreeSet.{Updates}
 use Rattle.std.specs.List.{list_any}
 use Rattle.std.specs.Str.{bytes_eq}
@@ -32,9 +31,6 @@ or_cond true true left = refl
 or_cond true false left = refl
 or_cond false seen left = refl
 
-pub none_yet : (set : NameSet) (all : List (List ℕ)) → set.keys ≡ [] → Gathers set all all
-none_yet set all empty = record { has = λ name. ap (λ keys. list_any (is_at (λ (k : Bor (List ℕ)). slice_cmp nat_cmp name k.now)) keys || is_one_of all name) empty }
-
 pub one_more : (old new : NameSet) (key : Bor (List ℕ)) (left all : List (List ℕ)) → Updates name_order old new key true → Gathers old (key.now ∷ left) all → Gathers new left all
 one_more old new key left all updates before = record { has = λ name. at name }
   where
@@ -43,9 +39,6 @@ one_more old new key left all updates before = record { has = λ name. at name }
         let found : has_name new name ≡ cond (is_eq (slice_cmp nat_cmp key.now name)) true (has_name old name) = updates.0 (record { ref_ptr = (0, 0); now = name }) in
         let whole : has_name new name ≡ cond (bytes_eq key.now name) true (has_name old name) = found ∙ ap (λ (t : Bool). cond t true (has_name old name)) (is_eq-slice_cmp key.now name) in
         ap (λ b. b || is_one_of left name) whole ∙ or_cond (bytes_eq key.now name) (has_name old name) (is_one_of left name) ∙ before.has name
-
-pub all_gathered : (set : NameSet) (all : List (List ℕ)) → Gathers set [] all → HasNames set all
-all_gathered set all gathers = λ name. sym (or_false (has_name set name)) ∙ gathers.has name
 
 -- ---- along actions
 

@@ -1,6 +1,6 @@
 -- A schema is laid over no more levels than it has.
 use Rattle.std.proofs.Common.{ℕ, ◌+◌, ◌*◌, ◌<◌, ◌≤◌, Bool, true, false, cond, Option, Some, None, ◌∷◌, [], ◌++◌, arith}
-use Rattle.dk_pqmodel.specs.Shape.{Leaf, chars, Shape, leaf, dictionary, Field, field, Fields, no_fields, one_field}
+use Rattle.dk_pqmodel.specs.Shape.{chars, Shape, leaf, dictionary, Field, field, Fields, no_fields, one_field}
 use Rattle.dk_pqmodel.specs.Shape as shape
 use Rattle.dk_pqmodel.specs.Schema.{levels_at, levels_in, levels_of, IsSchema}
 use Rattle.dk_pqmodel.specs.FileSchema.{FileNode, FileNodes, node_name, is_optional, named_in, leaf_kind, group_nodes, repeated_node, only_node, two_nodes}

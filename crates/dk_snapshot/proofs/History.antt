@@ -1,5 +1,5 @@
 -- The commits of a whole log stand and mean themselves, and the cut of a state that passes the tests.
-use Rattle.std.proofs.Common.{◌≡◌, ℕ, ℤ, ◌-◌, ◌<◌, ◌≤◌, ◌^◌, List, [], length, get_or, refl, ap, ap₂, ◌∙◌, Bool, true, false, not, ◌++◌, codes, decimal, arith}
+use Rattle.std.proofs.Common.{◌≡◌, ℕ, ℤ, ◌-◌, ◌<◌, ◌≤◌, ◌^◌, List, [], length, get_or, refl, ap, ap₂, ◌∙◌, true, false, not, ◌++◌, codes, decimal, arith}
 use Rattle.std.specs.Prelude.{Option, Some, None, Result, Ok, Err, option_and_then, option_map, is_some, if◌then◌else◌}
 use Rattle.std.proofs.lemmas.Option.{slice_get-get_or}
 use Rattle.dk_store.specs.Told.{Told, Stored}
