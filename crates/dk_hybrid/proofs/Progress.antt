@@ -21,8 +21,6 @@ pub record Continues (width count : ℕ) (bytes values rest : List ℕ) : Type 0
   pub first : (more tail : List ℕ) → AreFirst width (count - length values) more tail → AreFirst width count (values ++ more) (front ++ tail)
   pub short : EndShort width (count - length values) rest → EndShort width count bytes
 
-}
-
 -- one run more in front of first values
 pub one_more : (width left : ℕ) (meant : Meant) (front added more tail : List ℕ) → 0 < left → IsRun width meant front → added ≡ take left (values_in meant)
     → AreFirst width (left - length (values_in meant)) more tail → AreFirst width left (added ++ more) (front ++ tail)
