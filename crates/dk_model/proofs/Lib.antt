@@ -11,3 +11,4 @@ pub mod FormsBack
 pub mod ObjectsBack
 pub mod Utf8Text
 pub mod LinesBack
+pub mod Laid

@@ -7,6 +7,7 @@ mod action;
 mod action_key;
 mod commit;
 mod copied;
+mod copied_state;
 mod fault;
 mod kept;
 mod kind;

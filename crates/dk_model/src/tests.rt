@@ -59,3 +59,18 @@ fn a_file_added_again_after_its_removal_is_live(rt: HostRuntime) -> Result<(), F
     assert!(rt; state.tombstones.is_empty());
     Ok(())
 }
+
+fn copied(alloc: Global, commit: &Commit) -> Result<TableState, AllocError> {
+    let state = applied(alloc, commit)?;
+    state.copy(alloc)
+}
+
+#[test]
+fn a_copied_state_has_the_same_file(rt: HostRuntime) -> Result<(), Fail> {
+    let commit = history(rt.alloc())?;
+    let state = copied(rt.alloc(), &commit)?;
+    assert!(rt; state.files.contains("a"));
+    assert!(rt; state.files.len() == 1);
+    assert!(rt; state.tombstones.is_empty());
+    Ok(())
+}
