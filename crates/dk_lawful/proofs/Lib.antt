@@ -17,6 +17,7 @@ pub mod OneMeaning
 pub mod Puts
 pub mod ReadLog
 pub mod RowExample
+pub mod SegmentsAgree
 pub mod Sound
 pub mod SoundDeleted
 pub mod SoundMade
