@@ -25,7 +25,7 @@ use Rattle.dk_listing.specs.OfEvents.{stands_at, latest}
 use Rattle.dk_segment.specs.Chosen.{unless_gap}
 use Rattle.dk_snapshot.specs.declared.table.Snapshot.{Snapshot}
 use Rattle.dk_snapshot.specs.Asked.{version_asked}
-use Rattle.dk_snapshot.specs.LawfulOpens.{last_of, AsksVersion, IsKeptBy, segment_by, OpenedIsAsked, OpenedIsTable, HasSize, AreWithinLimit, AnswersVersion, KeptIsAnswered, GapIsMissing, AboveIsNoVersion, EmptyIsMissing}
+use Rattle.dk_snapshot.specs.LawfulOpens.{last_of, AsksVersion, IsKeptBy, segment_by, OpenedIsAsked, OpenedIsTable, IsNewestOver, AreWithinLimit, AnswersVersion, KeptIsAnswered, GapIsMissing, AboveIsNoVersion, EmptyIsMissing}
 use Rattle.dk_snapshot.specs.Opening.{with_cut, state_of, read_of, snapshot_with, opened_chosen, opened_version, opened_asked, opened}
 use Rattle.dk_snapshot.specs.Steps as reading
 use Rattle.dk_snapshot.specs.Steps.{oldest_path}
@@ -67,8 +67,9 @@ record IsExactly (events : List Told) (limits : Limits) (now : ℤ) (version : �
 
 abbrev Exactly : List Told → Limits → ℤ → ℕ → Segment → Result Snapshot Refusal → Type 0
 Exactly events limits now version segment (Ok snapshot) = IsExactly events limits now version segment snapshot
-Exactly events limits now version segment (Err (Limit Object size)) = (limits.object < size) × HasSize events segment.steps size
-Exactly events limits now version segment (Err (Unsupported name)) = cut_of (oldest_path segment.steps) (table_at events version) now ≡ Err (Unsupported name)
+Exactly events limits now version segment (Err (Limit Object size)) = IsNewestOver events limits.object segment.steps size
+Exactly events limits now version segment (Err (Unsupported name)) =
+    AreWithinLimit events limits.object segment.steps × (cut_of (oldest_path segment.steps) (table_at events version) now ≡ Err (Unsupported name))
 Exactly events limits now version segment (Err _) = ⊥
 
 agrees_itself : (state whole : TableState) (horizon : ℤ) → state ≡ whole → Agree state whole horizon
@@ -104,7 +105,7 @@ read_exactly events limits now version segment heads found = by (reading.commits
     by_cut : (state : TableState) → state ≡ table_at events version → AreWithinLimit events limits.object segment.steps → (cut : Result ℤ Refusal) → cut_of (oldest_path segment.steps) (table_at events version) now ≡ cut → IsCut cut
         → Exactly events limits now version segment (snapshot_with version segment (with_cut state cut))
     by_cut state same all (Ok cut) is fine = record { is_version = refl; is_segment = refl; state = same; within = all; cut = is }
-    by_cut state same all (Err (Unsupported name)) is fine = is
+    by_cut state same all (Err (Unsupported name)) is fine = (all, is)
     by_cut state same all (Err _) is fine = absurd fine
 
     by : (read : Result (List (List Action)) Refusal) → ReadsTo events limits.object segment.steps (take (version + 1) (commits_of (history events))) read

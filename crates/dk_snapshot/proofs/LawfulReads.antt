@@ -21,7 +21,7 @@ use Rattle.dk_engine.specs.declared.refusal.Refusal.{Refusal}
 use Rattle.dk_engine.specs.declared.refusal.Refusal.TheVariants.{Limit}
 use Rattle.dk_listing.specs.OfEvents.{stands_at}
 use Rattle.dk_listing.specs.Sizes.{stored_size}
-use Rattle.dk_snapshot.specs.LawfulOpens.{HasSize, AreWithinLimit}
+use Rattle.dk_snapshot.specs.LawfulOpens.{AreWithinLimit, IsNewestOver}
 use Rattle.dk_snapshot.specs.Log.{commit_of_object, newest_behind}
 use Rattle.dk_snapshot.specs.Steps as reading
 use Rattle.dk_snapshot.specs.Steps.{commit_in, fits, if_fits, step_path}
@@ -78,26 +78,26 @@ module _ (events : List Told) (limit : ℕ) where
   -- these commits are read of the steps, or an object is over the limit
   abbrev pub ReadsTo : List Step → List (List Action) → Result (List (List Action)) Refusal → Type 0
   ReadsTo steps found (Ok read) = (read ≡ found) × AreWithinLimit events limit steps
-  ReadsTo steps found (Err (Limit Object size)) = (limit < size) × HasSize events steps size
+  ReadsTo steps found (Err (Limit Object size)) = IsNewestOver events limit steps size
   ReadsTo steps found (Err _) = ⊥
-
-  has_before : (steps more : List Step) (size : ℕ) → HasSize events steps size → HasSize events (steps ++ more) size
-  has_before [] more size has = absurd has
-  has_before (step ∷ steps) more size (inl here) = inl here
-  has_before (step ∷ steps) more size (inr later) = inr (has_before steps more size later)
-
-  has_last : (steps : List Step) (step : Step) (size : ℕ) → stored_size events (step_path step) ≡ Some size → HasSize events (steps ++ step ∷ []) size
-  has_last [] step size is = inl is
-  has_last (first ∷ steps) step size is = inr (has_last steps step size is)
 
   within_last : (steps : List Step) (step : Step) → AreWithinLimit events limit steps → IfSome (stored_size events (step_path step)) (λ size. size ≤ limit) → AreWithinLimit events limit (steps ++ step ∷ [])
   within_last [] step all here = (here, tt)
   within_last (first ∷ steps) step all here = (all.0, within_last steps step all.1 here)
 
+  over_before : (steps : List Step) (step : Step) (size : ℕ) → IsNewestOver events limit steps size → IfSome (stored_size events (step_path step)) (λ size. size ≤ limit) → IsNewestOver events limit (steps ++ step ∷ []) size
+  over_before [] step size over here = absurd over
+  over_before (first ∷ steps) step size (inl newer) here = inl (over_before steps step size newer here)
+  over_before (first ∷ steps) step size (inr (all, is, more)) here = inr (within_last steps step all here, is, more)
+
+  over_last : (steps : List Step) (step : Step) (size : ℕ) → stored_size events (step_path step) ≡ Some size → limit < size → IsNewestOver events limit (steps ++ step ∷ []) size
+  over_last [] step size is more = inr (tt, is, more)
+  over_last (first ∷ steps) step size is more = inl (over_last steps step size is more)
+
   joined : (steps : List Step) (step : Step) (found : List (List Action)) (commit : List Action) (older : Result (List (List Action)) Refusal) → IfSome (stored_size events (step_path step)) (λ size. size ≤ limit)
       → ReadsTo steps found older → ReadsTo (steps ++ step ∷ []) (found ++ commit ∷ []) (newest_behind (Ok commit) older)
   joined steps step found commit (Ok read) here so_far = (ap (λ (commits : List (List Action)). commits ++ commit ∷ []) so_far.0, within_last steps step so_far.1 here)
-  joined steps step found commit (Err (Limit Object size)) here so_far = (so_far.0, has_before steps (step ∷ []) size so_far.1)
+  joined steps step found commit (Err (Limit Object size)) here so_far = over_before steps step size so_far here
   joined steps step found commit (Err _) here so_far = absurd so_far
 
   -- one more step, whose object means this commit
@@ -106,15 +106,12 @@ module _ (events : List Told) (limit : ℕ) where
       → ReadsTo (steps ++ step ∷ []) (found ++ commit ∷ []) (newest_behind (commit_in events limit (step_path step)) older)
   one_more steps step found commit older means so_far = by (stored_size events (step_path step)) refl
     where
-      object : Result (List Action) Refusal
-      object = commit_of_object (step_path step) (content events (step_path step))
-
       fine : IfSome (stored_size events (step_path step)) (λ size. size ≤ limit) → ReadsTo (steps ++ step ∷ []) (found ++ commit ∷ []) (newest_behind (commit_of_object (step_path step) (content events (step_path step))) older)
       fine here = subst (λ (meant : Result (List Action) Refusal). ReadsTo (steps ++ step ∷ []) (found ++ commit ∷ []) (newest_behind meant older)) (sym means) (joined steps step found commit older here so_far)
 
       by_test : (size : ℕ) (over : Bool) → stored_size events (step_path step) ≡ Some size → nat_lt limit size ≡ over
           → ReadsTo (steps ++ step ∷ []) (found ++ commit ∷ []) (newest_behind (if_fits (if over then Err (Limit Object size) else Ok tt) (commit_of_object (step_path step) (content events (step_path step)))) older)
-      by_test size true is test = (ltb-true limit size test, has_last steps step size is)
+      by_test size true is test = over_last steps step size is (ltb-true limit size test)
       by_test size false is test = fine (subst (λ (s : Option ℕ). IfSome s (λ size. size ≤ limit)) (sym is) (ltb-false limit size test))
 
       by : (size : Option ℕ) → stored_size events (step_path step) ≡ size

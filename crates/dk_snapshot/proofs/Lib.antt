@@ -12,3 +12,4 @@ pub mod KeptVersions
 pub mod LastVersion
 pub mod LawfulReads
 pub mod LawfulOpens
+pub mod Undeleted

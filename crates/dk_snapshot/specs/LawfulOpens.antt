@@ -8,6 +8,7 @@ use Rattle.dk_lawful.specs.declared.segment.Choice.{Choice}
 use Rattle.dk_lawful.specs.declared.segment.Segment.{Segment}
 use Rattle.dk_lawful.specs.declared.segment.Step.{Step}
 use Rattle.dk_lawful.specs.Agree.{Agree}
+use Rattle.dk_lawful.specs.Floor.{FromFloor}
 use Rattle.dk_lawful.specs.History.{next_version, table_at}
 use Rattle.dk_lawful.specs.Lawful.{Lawful}
 use Rattle.dk_lawful.specs.Segments.{IsKept, first_gap, segment_of}
@@ -60,14 +61,15 @@ OpenedIsTable = (events : List Told) (horizon : ℤ) (limits : Limits) (at : Opt
 
 -- ---- a version of the history that is kept
 
--- the object of one of the steps has this size
-abbrev pub HasSize : List Told → List Step → ℕ → Type 0
-HasSize events [] size = ⊥
-HasSize events (step ∷ steps) size = (stored_size events (step_path step) ≡ Some size) ⊎ HasSize events steps size
-
--- none of them is over the limit
+-- none of the objects of the steps is over the limit
 abbrev pub AreWithinLimit : List Told → ℕ → List Step → Type 0
 AreWithinLimit events limit steps = AllByRecursion (λ step. IfSome (stored_size events (step_path step)) (λ size. size ≤ limit)) steps
+
+-- the newest of them that is over the limit has this size; the steps stand oldest first
+abbrev pub IsNewestOver : List Told → ℕ → List Step → ℕ → Type 0
+IsNewestOver events limit [] size = ⊥
+IsNewestOver events limit (step ∷ newer) size =
+    IsNewestOver events limit newer size ⊎ (AreWithinLimit events limit newer × (stored_size events (step_path step) ≡ Some size) × (limit < size))
 
 -- The answer is this version of the history, read from this segment: each of its objects was within the limit, and the table is one that is read.
 -- Its state is that of the commits up to it, but that tombstones may lack whose time isn't above the horizon.
@@ -78,16 +80,21 @@ pub record IsVersionOf (events : List Told) (horizon : ℤ) (limits : Limits) (n
   pub within : AreWithinLimit events limits.object segment.steps
   pub cut : cut_of (oldest_path segment.steps) (table_at events version) now ≡ Ok snapshot.cut
 
--- It is that, or an object of the segment is over the limit, or the table asks for what isn't read.
+-- It is that, or an object of the segment is over the limit, or the table asks for what isn't read; the size is that of the newest such object.
 abbrev pub AnswersVersion : List Told → ℤ → Limits → ℤ → ℕ → Segment → Result Snapshot Refusal → Type 0
 AnswersVersion events horizon limits now version segment (Ok snapshot) = IsVersionOf events horizon limits now version segment snapshot
-AnswersVersion events horizon limits now version segment (Err (Limit Object size)) = (limits.object < size) × HasSize events segment.steps size
-AnswersVersion events horizon limits now version segment (Err (Unsupported name)) = cut_of (oldest_path segment.steps) (table_at events version) now ≡ Err (Unsupported name)
+AnswersVersion events horizon limits now version segment (Err (Limit Object size)) = IsNewestOver events limits.object segment.steps size
+AnswersVersion events horizon limits now version segment (Err (Unsupported name)) =
+    AreWithinLimit events limits.object segment.steps × (cut_of (oldest_path segment.steps) (table_at events version) now ≡ Err (Unsupported name))
 AnswersVersion events horizon limits now version segment (Err _) = ⊥
 
 abbrev pub KeptIsAnswered : Type 0
 KeptIsAnswered = (events : List Told) (horizon : ℤ) (limits : Limits) (at : Option ℕ) (choice : Choice) (now : ℤ) (version : ℕ) → Lawful events horizon → AsksVersion events at version
     → IsKeptBy events version choice → AnswersVersion events horizon limits now version (segment_by events version choice) (opened events limits at choice now)
+
+-- as long as no deletion has taken what a version needs, each version of the history is kept, whatever the choice
+abbrev pub UndeletedIsKept : Type 0
+UndeletedIsKept = (events : List Told) (horizon : ℤ) (choice : Choice) (version : ℕ) → Lawful events horizon → FromFloor events 0 → version < next_version events → IsKeptBy events version choice
 
 -- ---- others
 

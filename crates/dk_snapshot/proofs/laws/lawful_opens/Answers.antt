@@ -1,6 +1,7 @@
 -- The laws are lemmas.
 use Rattle.dk_snapshot.proofs.LastVersion as last
 use Rattle.dk_snapshot.proofs.LawfulOpens as lemmas
+use Rattle.dk_snapshot.proofs.Undeleted as undeleted
 use Rattle.dk_snapshot.proofs.laws.lawful_opens.Goals as goal
 
 pub returns-clause-latest : goal.returns-clause-latest
@@ -14,6 +15,9 @@ returns-clause-state c = lemmas.opened_is_table
 
 pub returns-clause-kept : goal.returns-clause-kept
 returns-clause-kept c = lemmas.kept_is_answered
+
+pub returns-clause-undeleted : goal.returns-clause-undeleted
+returns-clause-undeleted c = undeleted.undeleted_is_kept
 
 pub returns-clause-missing : goal.returns-clause-missing
 returns-clause-missing c = lemmas.gap_is_missing
