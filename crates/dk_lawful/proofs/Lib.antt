@@ -1,5 +1,6 @@
 pub mod Calls
 pub mod CheckpointExample
+pub mod CommitPlaces
 pub mod ContentLaws
 pub mod ContentsStand
 pub mod Example

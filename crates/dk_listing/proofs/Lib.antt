@@ -3,3 +3,4 @@ pub mod Small
 pub mod Standing
 pub mod LatestOf
 pub mod Sized
+pub mod Places

@@ -61,13 +61,13 @@ any_find test (entry ∷ listed) = go (test entry) (any_find test listed)
 
 -- ---- names with no slash
 
-abbrev is_slash : ℕ → Bool
+abbrev pub is_slash : ℕ → Bool
 is_slash byte = byte == 47
 
 digit_is_no_slash : (n : ℕ) → (48 + n % 10 == 47) ≡ false
 digit_is_no_slash n = grind (arith, nat_tests)
 
-no_slash_in_digits : (count number : ℕ) → list_any is_slash (digits count number) ≡ false
+pub no_slash_in_digits : (count number : ℕ) → list_any is_slash (digits count number) ≡ false
 unfolding digits
 no_slash_in_digits zero number = refl
 no_slash_in_digits (suc count) number =
@@ -80,7 +80,7 @@ first_false : (a b c : Bool) → (not (a || b) && c) ≡ true → a ≡ false
 first_false true b c h = absurd (true≢false (sym h))
 first_false false b c h = refl
 
-no_slash_in_id : (id : ℕ) → list_any is_slash (id_text id) ≡ false
+pub no_slash_in_id : (id : ℕ) → list_any is_slash (id_text id) ≡ false
 no_slash_in_id id =
     let split : list_any is_slash (sidecar_name id) ≡ (list_any is_slash (id_text id) || list_any is_slash (codes ".parquet")) = list_any-append is_slash (id_text id) (codes ".parquet") in
     first_false (list_any is_slash (id_text id)) (list_any is_slash (codes ".parquet")) (ends_in_parquet (sidecar_name id))
@@ -103,7 +103,7 @@ pub not_below_empty : (name : List ℕ) → is_lt (path_cmp name []) ≡ false
 not_below_empty [] = refl
 not_below_empty (b ∷ bs) = refl
 
-lists_name : (events : List Told) (folder name : List ℕ) → list_any is_slash name ≡ false
+pub lists_name : (events : List Told) (folder name : List ℕ) → list_any is_slash name ≡ false
     → list_any (λ entry. bytes_eq entry.name name) (listing events folder []) ≡ is_some (object events (path_in folder name))
 lists_name events folder name plain =
     any_find (λ (entry : Listed). bytes_eq entry.name name) (listing events folder [])

@@ -1,7 +1,7 @@
 -- Which versions open.
-use Rattle.std.proofs.Common.{◌≡◌, ℕ, ℤ, ◌≤◌, List, refl, ap, subst, ◌∙◌, Bool}
+use Rattle.std.proofs.Common.{◌≡◌, ℕ, ℤ, ◌<◌, ◌≤◌, List, refl, ap, subst, ◌∙◌, Bool}
 use Rattle.std.specs.Prelude.{Option, Some, None, Result, Ok, Err, if◌then◌else◌}
-use Rattle.std.proofs.lemmas.Bool.{le-leb}
+use Rattle.std.proofs.lemmas.Bool.{le-leb, lt-leb}
 use Rattle.dk_store.specs.Told.{Told}
 use Rattle.dk_store.specs.Standings.{standing}
 use Rattle.dk_model.specs.declared.state.TableState.{TableState}
@@ -19,7 +19,7 @@ use Rattle.dk_snapshot.specs.Opening.{snapshot_with, read_of, opened_chosen, ope
 use Rattle.dk_snapshot.specs.KeptVersions.{OpenedIsKept, NotKeptIsMissing}
 
 -- the version of what is answered
-read_at : (version : ℕ) (segment : Segment) (read : Result (TableState × ℤ) Refusal) (snapshot : Snapshot) → snapshot_with version segment read ≡ Ok snapshot → version ≡ snapshot.version
+pub read_at : (version : ℕ) (segment : Segment) (read : Result (TableState × ℤ) Refusal) (snapshot : Snapshot) → snapshot_with version segment read ≡ Ok snapshot → version ≡ snapshot.version
 read_at version segment (Ok read) snapshot is = by (ok_same is)
   where
     made : Snapshot
@@ -51,9 +51,13 @@ opened_is_kept events limits at choice now snapshot is = asked_kept events limit
 at_most : ℕ → ℕ → Bool → Result ℕ Refusal
 at_most version last test = if test then Ok version else Err (NoVersion last)
 
-within : (version last : ℕ) → version ≤ last → version_asked (Some version) (Some last) ≡ Ok version
+pub within : (version last : ℕ) → version ≤ last → version_asked (Some version) (Some last) ≡ Ok version
 unfolding at_most
 within version last most = ap (at_most version last) (le-leb version last most)
+
+pub above : (version last : ℕ) → last < version → version_asked (Some version) (Some last) ≡ Err (NoVersion last)
+unfolding at_most
+above version last more = ap (at_most version last) (lt-leb version last more)
 
 pub not_kept_is_missing : NotKeptIsMissing
 not_kept_is_missing events limits version last choice now path newest most gap =

@@ -1,6 +1,6 @@
 -- The latest version is the greatest.
-use Rattle.std.proofs.Common.{◌≡◌, ℕ, ◌<◌, ◌≤◌, ◌^◌, List, [], ◌∷◌, map, refl, ap, ap₂, sym, subst, ◌∙◌, Bool, true, false, true≢false, arith, codes}
-use Rattle.std.specs.Prelude.{Option, Some, None, ◌==◌, ◌||◌, max, is_some, nat_le, if◌then◌else◌}
+use Rattle.std.proofs.Common.{◌≡◌, ℕ, ◌<◌, ◌≤◌, ◌^◌, List, [], ◌∷◌, map, refl, ap, ap₂, sym, subst, ◌∙◌, Bool, true, false, true≢false, arith, codes, inl, inr}
+use Rattle.std.specs.Prelude.{Option, Some, None, ◌==◌, ◌||◌, ◌⊎◌, max, is_some, nat_le, if◌then◌else◌}
 use Rattle.std.specs.List.{list_any, fold}
 use Rattle.std.proofs.lemmas.Bool.{eqb-true, eq-eqb, leb-true, leb-false}
 use Rattle.dk_store.specs.Told.{Told, Listed}
@@ -34,11 +34,11 @@ neither : (x y : Bool) → x ≡ false → y ≡ false → (x || y) ≡ false
 neither true y a b = a
 neither false y a b = b
 
-first_or : (x y : Bool) → x ≡ true → (x || y) ≡ true
+pub first_or : (x y : Bool) → x ≡ true → (x || y) ≡ true
 first_or true y a = refl
 first_or false y a = absurd (true≢false (sym a))
 
-second_or : (x y : Bool) → y ≡ true → (x || y) ≡ true
+pub second_or : (x y : Bool) → y ≡ true → (x || y) ≡ true
 second_or true y a = refl
 second_or false y a = a
 
@@ -181,3 +181,22 @@ latest_is_greatest events = in_words events (latest events) (names_greatest even
 
 pub listed_is_greatest : ListedIsGreatest
 listed_is_greatest events listing is = subst (λ (found : Option ℕ). IsLatest events found) (sym (latest_standing events listing is)) (latest_is_greatest events)
+
+-- ---- the latest version alone
+
+-- it is published and one that a table can have, or has a complete checkpoint in the log's folder, or stands ratified
+abbrev pub Shown : List Told → ℕ → Type 0
+Shown events version = ((version < 2 ^ 63) × (stands_at events (Commit_at version) ≡ true)) ⊎ ((lists_complete (names_of events) version ≡ true) ⊎ (is_some (standing events version) ≡ true))
+
+shown_by : (events : List Told) (version : ℕ) (published complete ratified : Bool) → lists_version (names_of events) version ≡ published → lists_complete (names_of events) version ≡ complete
+    → list_any (λ (r : ℕ × List ℕ). is_of (Some r.0) version) (ratified_from events 0) ≡ ratified → ((published || complete) || ratified) ≡ true → Shown events version
+shown_by events version true complete ratified here there stands is =
+    let small : version < 2 ^ 63 = small_listed (listing events (codes "_delta_log") []) version here in
+    inl (small, sym (published_is events version small) ∙ here)
+shown_by events version false true ratified here there stands is = inr (inl there)
+shown_by events version false false ratified here there stands is = inr (inr (sym (ratified_is events version) ∙ stands ∙ is))
+
+pub latest_shown : (events : List Told) (version : ℕ) → latest events ≡ Some version → Shown events version
+latest_shown events version is =
+    let greatest : IsGreatest (by_names events) (Some version) = subst (IsGreatest (by_names events)) is (names_greatest events) in
+    shown_by events version (lists_version (names_of events) version) (lists_complete (names_of events) version) (list_any (λ (r : ℕ × List ℕ). is_of (Some r.0) version) (ratified_from events 0)) refl refl refl greatest.0

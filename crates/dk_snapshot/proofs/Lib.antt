@@ -9,3 +9,7 @@ pub mod Effects
 pub mod ReadVersions
 pub mod LatestVersion
 pub mod KeptVersions
+pub mod LastVersion
+pub mod LawfulReads
+pub mod LawfulOpens
+pub mod Undeleted

@@ -12,3 +12,4 @@ pub mod Effects
 pub mod Sources
 pub mod LatestVersion
 pub mod KeptVersions
+pub mod LawfulOpens

@@ -1,0 +1,237 @@
+-- What opens of a lawful log.
+use Rattle.std.proofs.Common.{◌≡◌, ℕ, zero, suc, ℤ, ◌+◌, ◌<◌, ◌≤◌, Bool, true, false, true≢false, List, take, Option, Some, None, refl, sym, ap, subst, ◌∙◌, arith}
+use Rattle.std.specs.Prelude.{Result, Ok, Err, IsSome, option_map, nat_le, if◌then◌else◌}
+use Rattle.std.proofs.lemmas.Bool.{leb-true}
+use Rattle.dk_model.specs.declared.action.Action.{Action}
+use Rattle.dk_model.specs.declared.action.Metadata.{Metadata}
+use Rattle.dk_model.specs.declared.action.Protocol.{Protocol}
+use Rattle.dk_model.specs.declared.state.TableState.{TableState}
+use Rattle.dk_model.specs.State.{fold}
+use Rattle.dk_store.specs.Told.{Told}
+use Rattle.dk_store.specs.Standings.{standing}
+use Rattle.dk_paths.specs.Names.{commit_path}
+use Rattle.dk_lawful.specs.declared.segment.Choice.{Choice}
+use Rattle.dk_lawful.specs.declared.segment.Segment.{Segment}
+use Rattle.dk_lawful.specs.Agree.{Agree}
+use Rattle.dk_lawful.specs.History.{HasHeads, history, next_version, commits_of, table_at}
+use Rattle.dk_lawful.specs.Lawful.{Lawful}
+use Rattle.dk_lawful.specs.Segments.{commit_place, first_gap, gap_from}
+use Rattle.dk_lawful.proofs.Validly.{table_is_whole}
+use Rattle.dk_engine.specs.declared.limits.Limits.{Limits}
+use Rattle.dk_engine.specs.declared.limits.Which.TheVariants.{Object}
+use Rattle.dk_engine.specs.declared.refusal.Refusal.{Refusal}
+use Rattle.dk_engine.specs.declared.refusal.Refusal.TheVariants.{Limit, Missing, NoVersion, Unsupported}
+use Rattle.dk_listing.specs.OfEvents.{stands_at, latest}
+use Rattle.dk_segment.specs.Chosen.{unless_gap}
+use Rattle.dk_snapshot.specs.declared.table.Snapshot.{Snapshot}
+use Rattle.dk_snapshot.specs.Asked.{version_asked}
+use Rattle.dk_snapshot.specs.LawfulOpens.{last_of, AsksVersion, IsKeptBy, segment_by, OpenedIsAsked, OpenedIsTable, IsNewestOver, AreWithinLimit, AnswersVersion, KeptIsAnswered, GapIsMissing, AboveIsNoVersion, EmptyIsMissing}
+use Rattle.dk_snapshot.specs.Opening.{with_cut, state_of, read_of, snapshot_with, opened_chosen, opened_version, opened_asked, opened}
+use Rattle.dk_snapshot.specs.Steps as reading
+use Rattle.dk_snapshot.specs.Steps.{oldest_path}
+use Rattle.dk_snapshot.specs.Support.{unread, retention, cut_unless, cut_with, cut_of}
+use Rattle.dk_snapshot.proofs.KeptVersions.{above, opened_is_kept, read_at, within}
+use Rattle.dk_snapshot.proofs.LastVersion.{latest_is_last}
+use Rattle.dk_snapshot.proofs.LawfulReads.{ReadsTo, no_gap, reads}
+
+-- ---- the cut of a table that has begun
+
+-- there is one, or the table asks for what isn't read
+abbrev IsCut : Result ℤ Refusal → Type 0
+IsCut (Ok cut) = Unit {0}
+IsCut (Err (Unsupported name)) = Unit {0}
+IsCut (Err _) = ⊥
+
+unless_is : (found : Option (List ℕ)) (kept : Option ℤ) (now : ℤ) → IsCut (cut_unless found kept now)
+unless_is (Some name) kept now = tt
+unless_is None None now = tt
+unless_is None (Some kept) now = tt
+
+heads_cut : (oldest : List ℕ) (state : TableState) (now : ℤ) → HasHeads state → IsCut (cut_of oldest state now)
+heads_cut oldest state now heads = by state.protocol state.metadata heads.protocol heads.metadata
+  where
+    by : (protocol : Option Protocol) (metadata : Option Metadata) → IsSome protocol → IsSome metadata → IsCut (cut_with oldest protocol metadata state.files now)
+    by None metadata none some = absurd (true≢false (sym none))
+    by (Some p) None some none = absurd (true≢false (sym none))
+    by (Some p) (Some m) some_protocol some_metadata = unless_is (unread p state.files) (retention m) now
+
+-- ---- a version of the history that is kept
+
+-- the answer is exactly the state of the history's commits, or one of the two refusals
+record IsExactly (events : List Told) (limits : Limits) (now : ℤ) (version : ℕ) (segment : Segment) (snapshot : Snapshot) : Type 0 where
+  is_version : snapshot.version ≡ version
+  is_segment : snapshot.segment ≡ segment
+  state : snapshot.state ≡ table_at events version
+  within : AreWithinLimit events limits.object segment.steps
+  cut : cut_of (oldest_path segment.steps) (table_at events version) now ≡ Ok snapshot.cut
+
+abbrev Exactly : List Told → Limits → ℤ → ℕ → Segment → Result Snapshot Refusal → Type 0
+Exactly events limits now version segment (Ok snapshot) = IsExactly events limits now version segment snapshot
+Exactly events limits now version segment (Err (Limit Object size)) = IsNewestOver events limits.object segment.steps size
+Exactly events limits now version segment (Err (Unsupported name)) =
+    AreWithinLimit events limits.object segment.steps × (cut_of (oldest_path segment.steps) (table_at events version) now ≡ Err (Unsupported name))
+Exactly events limits now version segment (Err _) = ⊥
+
+agrees_itself : (state whole : TableState) (horizon : ℤ) → state ≡ whole → Agree state whole horizon
+agrees_itself state whole horizon same = subst (λ (s : TableState). Agree state s horizon) same (record {
+  protocol = refl;
+  metadata = refl;
+  files = refl;
+  applications = refl;
+  domains = refl;
+  none_more = λ path time is. is;
+  unexpired = λ path time is above. is;
+})
+
+exactly_answers : (events : List Told) (horizon : ℤ) (limits : Limits) (now : ℤ) (version : ℕ) (segment : Segment) (result : Result Snapshot Refusal) → Exactly events limits now version segment result
+    → AnswersVersion events horizon limits now version segment result
+exactly_answers events horizon limits now version segment (Ok snapshot) is = record {
+  is_version = is.is_version;
+  is_segment = is.is_segment;
+  state = agrees_itself snapshot.state (table_at events version) horizon is.state;
+  within = is.within;
+  cut = is.cut;
+}
+exactly_answers events horizon limits now version segment (Err (Limit Object size)) is = is
+exactly_answers events horizon limits now version segment (Err (Unsupported name)) is = is
+exactly_answers events horizon limits now version segment (Err _) is = absurd is
+
+-- a segment whose steps are read as these commits, or not read for an object over the limit
+read_exactly : (events : List Told) (limits : Limits) (now : ℤ) (version : ℕ) (segment : Segment) → HasHeads (table_at events version)
+    → ReadsTo events limits.object segment.steps (take (version + 1) (commits_of (history events))) (reading.commits_of events limits.object segment.steps)
+    → Exactly events limits now version segment (snapshot_with version segment (state_of (oldest_path segment.steps) now (reading.commits_of events limits.object segment.steps)))
+read_exactly events limits now version segment heads found = by (reading.commits_of events limits.object segment.steps) found
+  where
+    by_cut : (state : TableState) → state ≡ table_at events version → AreWithinLimit events limits.object segment.steps → (cut : Result ℤ Refusal) → cut_of (oldest_path segment.steps) (table_at events version) now ≡ cut → IsCut cut
+        → Exactly events limits now version segment (snapshot_with version segment (with_cut state cut))
+    by_cut state same all (Ok cut) is fine = record { is_version = refl; is_segment = refl; state = same; within = all; cut = is }
+    by_cut state same all (Err (Unsupported name)) is fine = (all, is)
+    by_cut state same all (Err _) is fine = absurd fine
+
+    by : (read : Result (List (List Action)) Refusal) → ReadsTo events limits.object segment.steps (take (version + 1) (commits_of (history events))) read
+        → Exactly events limits now version segment (snapshot_with version segment (state_of (oldest_path segment.steps) now read))
+    by (Ok commits) reads_them =
+        let same : fold commits ≡ table_at events version = ap fold reads_them.0 in
+        let oldest : List ℕ = oldest_path segment.steps in
+        subst (λ (cut : Result ℤ Refusal). Exactly events limits now version segment (snapshot_with version segment (with_cut (fold commits) cut))) (ap (λ (s : TableState). cut_of oldest s now) (sym same))
+        (by_cut (fold commits) same reads_them.1 (cut_of oldest (table_at events version) now) refl (heads_cut oldest (table_at events version) now heads))
+    by (Err (Limit Object size)) reads_them = reads_them
+    by (Err _) reads_them = absurd reads_them
+
+no_number : (gap : Option ℕ) → option_map commit_path gap ≡ None → gap ≡ None
+no_number None none = refl
+no_number (Some version) some = absurd (let no : ◌≡◌ {A = Option (List ℕ)} (Some (commit_path version)) None = some in cc)
+
+module _ (events : List Told) (horizon : ℤ) (lawful : Lawful events horizon) (limits : Limits) (choice : Choice) (now : ℤ) where
+  version_exactly : (version : ℕ) → version < next_version events → IsKeptBy events version choice → Exactly events limits now version (segment_by events version choice) (opened_version events limits choice now version)
+  version_exactly version below kept =
+      let place_at = commit_place (stands_at events) (standing events) choice.staged_first in
+      let none : gap_from place_at 0 (version + 1) ≡ None = no_number (gap_from place_at 0 (version + 1)) kept in
+      subst (λ (gap : Option (List ℕ)). Exactly events limits now version (segment_by events version choice) (opened_chosen events limits now version (unless_gap (segment_by events version choice) gap))) (sym kept)
+      (read_exactly events limits now version (segment_by events version choice) (table_is_whole events horizon lawful version below)
+      (reads events horizon lawful limits.object choice.staged_first (version + 1) (omega arith) (λ w less. no_gap place_at 0 (version + 1) none w (omega arith) (omega arith))))
+
+  -- ---- the asked version
+
+  -- the latest version, where the history has so many
+  latest_at : (count : ℕ) → next_version events ≡ count → latest events ≡ last_of count
+  latest_at count is = latest_is_last events horizon lawful ∙ ap last_of is
+
+  asked_by : (at : Option ℕ) (version count : ℕ) → next_version events ≡ count → AsksVersion events at version → version_asked at (last_of count) ≡ Ok version
+  asked_by None version zero is asks = absurd (omega arith)
+  asked_by None version (suc last) is asks = let same : last ≡ version = omega arith in ap Ok same
+  asked_by (Some asked) version zero is (same, below) = absurd (omega arith)
+  asked_by (Some asked) version (suc last) is (same, below) =
+      let here : asked ≡ version = sym same in
+      ap (λ (v : ℕ). version_asked (Some v) (Some last)) here ∙ within version last (omega arith)
+
+  asked_is : (at : Option ℕ) (version : ℕ) → AsksVersion events at version → version_asked at (latest events) ≡ Ok version
+  asked_is at version asks = ap (version_asked at) (latest_at (next_version events) refl) ∙ asked_by at version (next_version events) refl asks
+
+  asks_within : (at : Option ℕ) (version : ℕ) → AsksVersion events at version → version < next_version events
+  asks_within None version asks = omega arith
+  asks_within (Some asked) version asks = asks.1
+
+  opened_exactly : (at : Option ℕ) (version : ℕ) → AsksVersion events at version → IsKeptBy events version choice → Exactly events limits now version (segment_by events version choice) (opened events limits at choice now)
+  opened_exactly at version asks kept =
+      subst (λ (asked : Result ℕ Refusal). Exactly events limits now version (segment_by events version choice) (opened_asked events limits choice now asked)) (sym (asked_is at version asks))
+      (version_exactly version (asks_within at version asks) kept)
+
+  -- ---- what is answered
+
+  -- the version of what is answered is the one that was opened
+  version_read : (version : ℕ) (snapshot : Snapshot) → opened_version events limits choice now version ≡ Ok snapshot → version ≡ snapshot.version
+  version_read version snapshot is = by (first_gap (stands_at events) (standing events) version choice) is
+    where
+      by : (gap : Option (List ℕ)) → opened_chosen events limits now version (unless_gap (segment_by events version choice) gap) ≡ Ok snapshot → version ≡ snapshot.version
+      by None opens = read_at version (segment_by events version choice) (read_of events limits now (segment_by events version choice)) snapshot opens
+      by (Some path) opens = absurd (let fails : ◌≡◌ {A = Result Snapshot Refusal} (Err (Missing path)) (Ok snapshot) = opens in cc)
+
+  last_asks : (last : ℕ) (snapshot : Snapshot) → next_version events ≡ suc last → opened_version events limits choice now last ≡ Ok snapshot → snapshot.version + 1 ≡ next_version events
+  last_asks last snapshot is opens = let same : last ≡ snapshot.version = version_read last snapshot opens in omega arith
+
+  at_asks : (asked last : ℕ) (snapshot : Snapshot) (test : Bool) → nat_le asked last ≡ test → next_version events ≡ suc last
+      → opened_asked events limits choice now (if test then Ok asked else Err (NoVersion last)) ≡ Ok snapshot → (snapshot.version ≡ asked) × (snapshot.version < next_version events)
+  at_asks asked last snapshot true least is opens =
+      let same : asked ≡ snapshot.version = version_read asked snapshot opens in
+      let most : asked ≤ last = leb-true asked last least in
+      (sym same, (omega arith))
+  at_asks asked last snapshot false least is opens = absurd (let fails : ◌≡◌ {A = Result Snapshot Refusal} (Err (NoVersion last)) (Ok snapshot) = opens in cc)
+
+  asks_by : (at : Option ℕ) (snapshot : Snapshot) (count : ℕ) → next_version events ≡ count → opened_asked events limits choice now (version_asked at (last_of count)) ≡ Ok snapshot → AsksVersion events at snapshot.version
+  asks_by at snapshot zero is opens = absurd (let fails : ◌≡◌ {A = Result Snapshot Refusal} (Err (Missing (commit_path 0))) (Ok snapshot) = opens in cc)
+  asks_by None snapshot (suc last) is opens = last_asks last snapshot is opens
+  asks_by (Some asked) snapshot (suc last) is opens = at_asks asked last snapshot (nat_le asked last) refl is opens
+
+  asks : (at : Option ℕ) (snapshot : Snapshot) → opened events limits at choice now ≡ Ok snapshot → AsksVersion events at snapshot.version
+  asks at snapshot opens =
+      asks_by at snapshot (next_version events) refl (ap (λ (l : Option ℕ). opened_asked events limits choice now (version_asked at l)) (sym (latest_at (next_version events) refl)) ∙ opens)
+
+  state_is : (at : Option ℕ) (snapshot : Snapshot) → opened events limits at choice now ≡ Ok snapshot → snapshot.state ≡ table_at events snapshot.version
+  state_is at snapshot opens =
+      let asked : AsksVersion events at snapshot.version = asks at snapshot opens in
+      let kept : IsKeptBy events snapshot.version choice = opened_is_kept events limits at choice now snapshot opens in
+      let exactly : IsExactly events limits now snapshot.version (segment_by events snapshot.version choice) snapshot =
+      subst (λ (result : Result Snapshot Refusal). Exactly events limits now snapshot.version (segment_by events snapshot.version choice) result) opens (opened_exactly at snapshot.version asked kept) in
+      exactly.state
+
+  -- ---- what isn't
+
+  gap_missing : (at : Option ℕ) (version : ℕ) (path : List ℕ) → AsksVersion events at version → first_gap (stands_at events) (standing events) version choice ≡ Some path → opened events limits at choice now ≡ Err (Missing path)
+  gap_missing at version path asks gap =
+      ap (opened_asked events limits choice now) (asked_is at version asks)
+      ∙ ap (λ (missing : Option (List ℕ)). opened_chosen events limits now version (unless_gap (segment_by events version choice) missing)) gap
+
+  above_none : (last version count : ℕ) → next_version events ≡ count → last + 1 ≡ count → last < version → version_asked (Some version) (last_of count) ≡ Err (NoVersion last)
+  above_none last version zero is next more = absurd (omega arith)
+  above_none last version (suc most) is next more =
+      let same : most ≡ last = omega arith in
+      above version most (omega arith) ∙ ap (λ (n : ℕ). Err (NoVersion n)) same
+
+  above_missing : (last version : ℕ) → last + 1 ≡ next_version events → last < version → opened events limits (Some version) choice now ≡ Err (NoVersion last)
+  above_missing last version next more =
+      ap (opened_asked events limits choice now) (ap (version_asked (Some version)) (latest_at (next_version events) refl) ∙ above_none last version (next_version events) refl next more)
+
+  empty_missing : (at : Option ℕ) → next_version events ≡ 0 → opened events limits at choice now ≡ Err (Missing (commit_path 0))
+  empty_missing at none = ap (λ (l : Option ℕ). opened_asked events limits choice now (version_asked at l)) (latest_at 0 none)
+
+-- ---- the laws
+
+pub opened_is_asked : OpenedIsAsked
+opened_is_asked events horizon limits at choice now snapshot lawful opens = (asks events horizon lawful limits choice now at snapshot opens, opened_is_kept events limits at choice now snapshot opens)
+
+pub opened_is_table : OpenedIsTable
+opened_is_table events horizon limits at choice now snapshot lawful opens = state_is events horizon lawful limits choice now at snapshot opens
+
+pub kept_is_answered : KeptIsAnswered
+kept_is_answered events horizon limits at choice now version lawful asks kept =
+    exactly_answers events horizon limits now version (segment_by events version choice) (opened events limits at choice now) (opened_exactly events horizon lawful limits choice now at version asks kept)
+
+pub gap_is_missing : GapIsMissing
+gap_is_missing events horizon limits at choice now version path lawful asks gap = gap_missing events horizon lawful limits choice now at version path asks gap
+
+pub above_is_no_version : AboveIsNoVersion
+above_is_no_version events horizon limits choice now last version lawful next more = above_missing events horizon lawful limits choice now last version next more
+
+pub empty_is_missing : EmptyIsMissing
+empty_is_missing events horizon limits at choice now lawful none = empty_missing events horizon lawful limits choice now at none

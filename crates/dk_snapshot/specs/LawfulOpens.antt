@@ -1,0 +1,114 @@
+-- What opens of a lawful log, by its history (Delta Lake's PROTOCOL.md, "Delta Log Entries", "Checkpoints", "Catalog-managed tables").
+use Rattle.std.specs.Prelude.{ℕ, zero, suc, ℤ, ◌≡◌, ◌<◌, ◌≤◌, ◌+◌, ◌⊎◌, List, [], ◌∷◌, Option, Some, None, Result, Ok, Err, IfSome}
+use Rattle.std.specs.List.{AllByRecursion}
+use Rattle.dk_store.specs.Told.{Told}
+use Rattle.dk_store.specs.Standings.{standing}
+use Rattle.dk_paths.specs.Names.{commit_path}
+use Rattle.dk_lawful.specs.declared.segment.Choice.{Choice}
+use Rattle.dk_lawful.specs.declared.segment.Segment.{Segment}
+use Rattle.dk_lawful.specs.declared.segment.Step.{Step}
+use Rattle.dk_lawful.specs.Agree.{Agree}
+use Rattle.dk_lawful.specs.Floor.{FromFloor}
+use Rattle.dk_lawful.specs.History.{next_version, table_at}
+use Rattle.dk_lawful.specs.Lawful.{Lawful}
+use Rattle.dk_lawful.specs.Segments.{IsKept, first_gap, segment_of}
+use Rattle.dk_engine.specs.declared.limits.Limits.{Limits}
+use Rattle.dk_engine.specs.declared.limits.Which.TheVariants.{Object}
+use Rattle.dk_engine.specs.declared.refusal.Refusal.{Refusal}
+use Rattle.dk_engine.specs.declared.refusal.Refusal.TheVariants.{Limit, Missing, NoVersion, Unsupported}
+use Rattle.dk_listing.specs.OfEvents.{stands_at, latest}
+use Rattle.dk_listing.specs.Sizes.{stored_size}
+use Rattle.dk_snapshot.specs.declared.table.Snapshot.{Snapshot}
+use Rattle.dk_snapshot.specs.Opening.{opened}
+use Rattle.dk_snapshot.specs.Steps.{oldest_path, step_path}
+use Rattle.dk_snapshot.specs.Support.{cut_of}
+
+-- ---- versions
+
+-- the last of so many versions
+abbrev pub last_of : ℕ → Option ℕ
+last_of zero = None
+last_of (suc version) = Some version
+
+-- the latest version is the last one of the history
+abbrev pub LatestIsLast : Type 0
+LatestIsLast = (events : List Told) (horizon : ℤ) → Lawful events horizon → latest events ≡ last_of (next_version events)
+
+-- the version that is asked for: the last one of the history, or a given one that it has
+abbrev pub AsksVersion : List Told → Option ℕ → ℕ → Type 0
+AsksVersion events None version = version + 1 ≡ next_version events
+AsksVersion events (Some asked) version = (version ≡ asked) × (version < next_version events)
+
+-- no commit that the version needs is missing
+abbrev pub IsKeptBy : List Told → ℕ → Choice → Type 0
+IsKeptBy events version choice = IsKept (stands_at events) (standing events) version choice
+
+-- what the version is read from
+abbrev pub segment_by : List Told → ℕ → Choice → Segment
+segment_by events version choice = segment_of (stands_at events) (standing events) version choice
+
+-- ---- a version that is answered
+
+-- it is the asked one, the history has it, and it is kept
+abbrev pub OpenedIsAsked : Type 0
+OpenedIsAsked = (events : List Told) (horizon : ℤ) (limits : Limits) (at : Option ℕ) (choice : Choice) (now : ℤ) (snapshot : Snapshot) → Lawful events horizon
+    → opened events limits at choice now ≡ Ok snapshot → AsksVersion events at snapshot.version × IsKeptBy events snapshot.version choice
+
+-- its state is that of the history's commits up to it, as long as segments are made of commits alone
+abbrev pub OpenedIsTable : Type 0
+OpenedIsTable = (events : List Told) (horizon : ℤ) (limits : Limits) (at : Option ℕ) (choice : Choice) (now : ℤ) (snapshot : Snapshot) → Lawful events horizon
+    → opened events limits at choice now ≡ Ok snapshot → snapshot.state ≡ table_at events snapshot.version
+
+-- ---- a version of the history that is kept
+
+-- none of the objects of the steps is over the limit
+abbrev pub AreWithinLimit : List Told → ℕ → List Step → Type 0
+AreWithinLimit events limit steps = AllByRecursion (λ step. IfSome (stored_size events (step_path step)) (λ size. size ≤ limit)) steps
+
+-- the newest of them that is over the limit has this size; the steps stand oldest first
+abbrev pub IsNewestOver : List Told → ℕ → List Step → ℕ → Type 0
+IsNewestOver events limit [] size = ⊥
+IsNewestOver events limit (step ∷ newer) size =
+    IsNewestOver events limit newer size ⊎ (AreWithinLimit events limit newer × (stored_size events (step_path step) ≡ Some size) × (limit < size))
+
+-- The answer is this version of the history, read from this segment: each of its objects was within the limit, and the table is one that is read.
+-- Its state is that of the commits up to it, but that tombstones may lack whose time isn't above the horizon.
+pub record IsVersionOf (events : List Told) (horizon : ℤ) (limits : Limits) (now : ℤ) (version : ℕ) (segment : Segment) (snapshot : Snapshot) : Type 0 where
+  pub is_version : snapshot.version ≡ version
+  pub is_segment : snapshot.segment ≡ segment
+  pub state : Agree snapshot.state (table_at events version) horizon
+  pub within : AreWithinLimit events limits.object segment.steps
+  pub cut : cut_of (oldest_path segment.steps) (table_at events version) now ≡ Ok snapshot.cut
+
+-- It is that, or an object of the segment is over the limit, or the table asks for what isn't read; the size is that of the newest such object.
+abbrev pub AnswersVersion : List Told → ℤ → Limits → ℤ → ℕ → Segment → Result Snapshot Refusal → Type 0
+AnswersVersion events horizon limits now version segment (Ok snapshot) = IsVersionOf events horizon limits now version segment snapshot
+AnswersVersion events horizon limits now version segment (Err (Limit Object size)) = IsNewestOver events limits.object segment.steps size
+AnswersVersion events horizon limits now version segment (Err (Unsupported name)) =
+    AreWithinLimit events limits.object segment.steps × (cut_of (oldest_path segment.steps) (table_at events version) now ≡ Err (Unsupported name))
+AnswersVersion events horizon limits now version segment (Err _) = ⊥
+
+abbrev pub KeptIsAnswered : Type 0
+KeptIsAnswered = (events : List Told) (horizon : ℤ) (limits : Limits) (at : Option ℕ) (choice : Choice) (now : ℤ) (version : ℕ) → Lawful events horizon → AsksVersion events at version
+    → IsKeptBy events version choice → AnswersVersion events horizon limits now version (segment_by events version choice) (opened events limits at choice now)
+
+-- as long as no deletion has taken what a version needs, each version of the history is kept, whatever the choice
+abbrev pub UndeletedIsKept : Type 0
+UndeletedIsKept = (events : List Told) (horizon : ℤ) (choice : Choice) (version : ℕ) → Lawful events horizon → FromFloor events 0 → version < next_version events → IsKeptBy events version choice
+
+-- ---- others
+
+-- a version of the history that isn't kept is refused with the path of its first missing commit
+abbrev pub GapIsMissing : Type 0
+GapIsMissing = (events : List Told) (horizon : ℤ) (limits : Limits) (at : Option ℕ) (choice : Choice) (now : ℤ) (version : ℕ) (path : List ℕ) → Lawful events horizon
+    → AsksVersion events at version → first_gap (stands_at events) (standing events) version choice ≡ Some path → opened events limits at choice now ≡ Err (Missing path)
+
+-- one above the last version of the history is refused with the last one
+abbrev pub AboveIsNoVersion : Type 0
+AboveIsNoVersion = (events : List Told) (horizon : ℤ) (limits : Limits) (choice : Choice) (now : ℤ) (last version : ℕ) → Lawful events horizon → last + 1 ≡ next_version events → last < version
+    → opened events limits (Some version) choice now ≡ Err (NoVersion last)
+
+-- a log with no history lacks its first commit
+abbrev pub EmptyIsMissing : Type 0
+EmptyIsMissing = (events : List Told) (horizon : ℤ) (limits : Limits) (at : Option ℕ) (choice : Choice) (now : ℤ) → Lawful events horizon → next_version events ≡ 0
+    → opened events limits at choice now ≡ Err (Missing (commit_path 0))
