@@ -5,6 +5,7 @@ pub mod ContentLaws
 pub mod ContentsStand
 pub mod Example
 pub mod ForbiddenCheckpoints
+pub mod HeadRules
 pub mod Heads
 pub mod IdsOnce
 pub mod Joined
