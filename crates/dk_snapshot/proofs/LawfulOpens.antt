@@ -147,7 +147,7 @@ module _ (events : List Told) (horizon : ℤ) (lawful : Lawful events horizon) (
       let none : gap_from place_at 0 (version + 1) ≡ None = no_number (gap_from place_at 0 (version + 1)) kept in
       subst (λ (gap : Option (List ℕ)). Exactly events limits now version (segment_by events version choice) (opened_chosen events limits now version (unless_gap (segment_by events version choice) gap))) (sym kept)
       (read_exactly events limits now version (segment_by events version choice) (table_is_whole events horizon lawful version below)
-      (reads events horizon lawful limits.object choice.staged_first (version + 1) (omega arith) (λ w less. no_gap place_at 0 (version + 1) none w (omega arith) (omega arith))))
+      (reads events horizon lawful choice.staged_first limits.object (version + 1) (omega arith) (λ w less. no_gap place_at 0 (version + 1) none w (omega arith) (omega arith))))
 
   -- ---- the asked version
 

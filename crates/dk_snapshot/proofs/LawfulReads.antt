@@ -119,15 +119,15 @@ module _ (events : List Told) (limit : ℕ) where
       by None is = fine (subst (λ (s : Option ℕ). IfSome s (λ size. size ≤ limit)) (sym is) tt)
       by (Some size) is = by_test size (nat_lt limit size) is refl
 
-module _ (events : List Told) (horizon : ℤ) (lawful : Lawful events horizon) (limit : ℕ) (staged_first : Bool) where
+module _ (events : List Told) (horizon : ℤ) (lawful : Lawful events horizon) (staged_first : Bool) where
   abbrev place_at : ℕ → Option Place
   place_at = commit_place (stands_at events) (standing events) staged_first
 
   abbrev commits : List (List Action)
   commits = commits_of (history events)
 
-  -- the object at a version's place means the history's commit
-  commit_there : (version : ℕ) (place : Place) → version < next_version events → place_at version ≡ Some place
+  -- the object at the place of a version of the history means the history's commit
+  pub commit_there : (version : ℕ) (place : Place) → version < next_version events → place_at version ≡ Some place
       → commit_of_object (place_path place) (content events (place_path place)) ≡ Ok (get_or commits version [])
   commit_there version place below is =
       let long = length_commits (history events) in
@@ -136,10 +136,10 @@ module _ (events : List Told) (horizon : ℤ) (lawful : Lawful events horizon) (
       (placed_commit_means events horizon lawful (stands_at events) (λ p there. content_there events (place_path p) there) staged_first version place (history_small events horizon lawful version below) is
       ∙ slice_get-get_or commits version [] inside)
 
-  pub reads : (count : ℕ) → count ≤ next_version events → ((w : ℕ) → w < count → is_some (place_at w) ≡ true)
+  pub reads : (limit count : ℕ) → count ≤ next_version events → ((w : ℕ) → w < count → is_some (place_at w) ≡ true)
       → ReadsTo events limit (steps_from place_at 0 count) (take count commits) (reading.commits_of events limit (steps_from place_at 0 count))
-  reads zero most all = subst (λ (steps : List Step). ReadsTo events limit steps (take 0 commits) (reading.commits_of events limit steps)) (sym (steps_none place_at 0)) (refl, tt)
-  reads (suc k) most all =
+  reads limit zero most all = subst (λ (steps : List Step). ReadsTo events limit steps (take 0 commits) (reading.commits_of events limit steps)) (sym (steps_none place_at 0)) (refl, tt)
+  reads limit (suc k) most all =
       let here = some_of (place_at k) (all k (omega arith)) in
       let front : List Step = steps_from place_at 0 k in
       let step : Step = Commit (0 + k) (place_path here.0) in
@@ -149,7 +149,7 @@ module _ (events : List Told) (horizon : ℤ) (lawful : Lawful events horizon) (
       let inside : k < length commits = omega arith in
       let meant = commit_there k here.0 (omega arith) here.1 in
       let read : ReadsTo events limit (front ++ step ∷ []) (take k commits ++ get_or commits k [] ∷ []) (newest_behind (commit_in events limit (step_path step)) (reading.commits_of events limit front)) =
-      one_more events limit front step (take k commits) (get_or commits k []) (reading.commits_of events limit front) meant (reads k (omega arith) (λ w less. all w (omega arith))) in
+      one_more events limit front step (take k commits) (get_or commits k []) (reading.commits_of events limit front) meant (reads limit k (omega arith) (λ w less. all w (omega arith))) in
       subst (λ (steps : List Step). ReadsTo events limit steps (take (suc k) commits) (reading.commits_of events limit steps)) (sym whole)
       (subst (λ (r : Result (List (List Action)) Refusal). ReadsTo events limit (front ++ step ∷ []) (take (suc k) commits) r) (sym (commits_last events limit front step))
       (subst (λ (found : List (List Action)). ReadsTo events limit (front ++ step ∷ []) found (newest_behind (commit_in events limit (step_path step)) (reading.commits_of events limit front)))
