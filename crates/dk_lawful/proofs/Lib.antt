@@ -18,6 +18,7 @@ pub mod OneMeaning
 pub mod Puts
 pub mod ReadLog
 pub mod RowExample
+pub mod SegmentSteps
 pub mod Sound
 pub mod SoundDeleted
 pub mod SoundMade

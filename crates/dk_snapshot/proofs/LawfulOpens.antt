@@ -16,6 +16,7 @@ use Rattle.dk_lawful.specs.Agree.{Agree}
 use Rattle.dk_lawful.specs.History.{HasHeads, history, next_version, commits_of, table_at}
 use Rattle.dk_lawful.specs.Lawful.{Lawful}
 use Rattle.dk_lawful.specs.Segments.{commit_place, first_gap, gap_from}
+use Rattle.dk_lawful.proofs.SegmentSteps.{no_gap}
 use Rattle.dk_lawful.proofs.Validly.{table_is_whole}
 use Rattle.dk_engine.specs.declared.limits.Limits.{Limits}
 use Rattle.dk_engine.specs.declared.limits.Which.TheVariants.{Object}
@@ -32,7 +33,7 @@ use Rattle.dk_snapshot.specs.Steps.{oldest_path}
 use Rattle.dk_snapshot.specs.Support.{retention_key, retention, cut_before, cut_unless, cut_with, cut_of}
 use Rattle.dk_snapshot.proofs.KeptVersions.{above, opened_is_kept, read_at, within}
 use Rattle.dk_snapshot.proofs.LastVersion.{latest_is_last}
-use Rattle.dk_snapshot.proofs.LawfulReads.{ReadsTo, no_gap, reads}
+use Rattle.dk_snapshot.proofs.LawfulReads.{ReadsTo, reads}
 
 -- ---- the cut of a table that has begun
 
