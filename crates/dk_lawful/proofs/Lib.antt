@@ -19,6 +19,7 @@ pub mod OneMeaning
 pub mod Puts
 pub mod ReadLog
 pub mod RowExample
+pub mod SegmentSteps
 pub mod SegmentsAgree
 pub mod Sound
 pub mod SoundDeleted

@@ -16,23 +16,24 @@ use Rattle.dk_lawful.specs.Agree.{Agree}
 use Rattle.dk_lawful.specs.History.{HasHeads, history, next_version, commits_of, table_at}
 use Rattle.dk_lawful.specs.Lawful.{Lawful}
 use Rattle.dk_lawful.specs.Segments.{commit_place, first_gap, gap_from}
+use Rattle.dk_lawful.proofs.SegmentSteps.{no_gap}
 use Rattle.dk_lawful.proofs.Validly.{table_is_whole}
 use Rattle.dk_engine.specs.declared.limits.Limits.{Limits}
 use Rattle.dk_engine.specs.declared.limits.Which.TheVariants.{Object}
 use Rattle.dk_engine.specs.declared.refusal.Refusal.{Refusal}
-use Rattle.dk_engine.specs.declared.refusal.Refusal.TheVariants.{Limit, Missing, NoVersion, Unsupported}
+use Rattle.dk_engine.specs.declared.refusal.Refusal.TheVariants.{Damaged, Limit, Missing, NoVersion, Unsupported}
 use Rattle.dk_listing.specs.OfEvents.{stands_at, latest}
 use Rattle.dk_segment.specs.Chosen.{unless_gap}
 use Rattle.dk_snapshot.specs.declared.table.Snapshot.{Snapshot}
 use Rattle.dk_snapshot.specs.Asked.{version_asked}
-use Rattle.dk_snapshot.specs.LawfulOpens.{last_of, AsksVersion, IsKeptBy, segment_by, OpenedIsAsked, OpenedIsTable, IsNewestOver, AreWithinLimit, AnswersVersion, KeptIsAnswered, GapIsMissing, AboveIsNoVersion, EmptyIsMissing}
+use Rattle.dk_snapshot.specs.LawfulOpens.{last_of, AsksVersion, IsKeptBy, segment_by, OpenedIsAsked, OpenedIsTable, HasCut, OpenedHasCut, IsNewestOver, AreWithinLimit, AnswersVersion, KeptIsAnswered, GapIsMissing, AboveIsNoVersion, EmptyIsMissing}
 use Rattle.dk_snapshot.specs.Opening.{with_cut, state_of, read_of, snapshot_with, opened_chosen, opened_version, opened_asked, opened}
 use Rattle.dk_snapshot.specs.Steps as reading
 use Rattle.dk_snapshot.specs.Steps.{oldest_path}
-use Rattle.dk_snapshot.specs.Support.{unread, retention, cut_unless, cut_with, cut_of}
+use Rattle.dk_snapshot.specs.Support.{retention_key, retention, cut_before, cut_unless, cut_with, cut_of}
 use Rattle.dk_snapshot.proofs.KeptVersions.{above, opened_is_kept, read_at, within}
 use Rattle.dk_snapshot.proofs.LastVersion.{latest_is_last}
-use Rattle.dk_snapshot.proofs.LawfulReads.{ReadsTo, no_gap, reads}
+use Rattle.dk_snapshot.proofs.LawfulReads.{ReadsTo, reads}
 
 -- ---- the cut of a table that has begun
 
@@ -53,7 +54,25 @@ heads_cut oldest state now heads = by state.protocol state.metadata heads.protoc
     by : (protocol : Option Protocol) (metadata : Option Metadata) → IsSome protocol → IsSome metadata → IsCut (cut_with oldest protocol metadata state.files now)
     by None metadata none some = absurd (true≢false (sym none))
     by (Some p) None some none = absurd (true≢false (sym none))
-    by (Some p) (Some m) some_protocol some_metadata = unless_is (unread p state.files) (retention m) now
+    by (Some p) (Some m) some_protocol some_metadata = unless_is _ (retention m) now
+
+-- and it is the moment of the call, less the time that removed files are kept
+unless_cut : (metadata : Metadata) (found : Option (List ℕ)) (kept : Option ℤ) (now cut : ℤ) → retention metadata ≡ kept → cut_unless found kept now ≡ Ok cut → HasCut (Some metadata) now cut
+unless_cut metadata (Some name) kept now cut is cuts = absurd (let fails : ◌≡◌ {A = Result ℤ Refusal} (Err (Unsupported name)) (Ok cut) = cuts in cc)
+unless_cut metadata None None now cut is cuts = absurd (let fails : ◌≡◌ {A = Result ℤ Refusal} (Err (Unsupported retention_key)) (Ok cut) = cuts in cc)
+unless_cut metadata None (Some kept) now cut is cuts = (kept, is, ok_same cuts)
+  where
+    ok_same : ◌≡◌ {A = Result ℤ Refusal} (Ok (cut_before now kept)) (Ok cut) → cut ≡ cut_before now kept
+    ok_same e = cc
+
+state_cut : (oldest : List ℕ) (state : TableState) (now cut : ℤ) → cut_of oldest state now ≡ Ok cut → HasCut state.metadata now cut
+state_cut oldest state now cut cuts = by state.protocol state.metadata cuts
+  where
+    by : (protocol : Option Protocol) (metadata : Option Metadata) → cut_with oldest protocol metadata state.files now ≡ Ok cut → HasCut metadata now cut
+    by (Some p) (Some m) is = unless_cut m _ (retention m) now cut refl is
+    by (Some p) None is = absurd (let fails : ◌≡◌ {A = Result ℤ Refusal} (Err (Damaged oldest 0)) (Ok cut) = is in cc)
+    by None None is = absurd (let fails : ◌≡◌ {A = Result ℤ Refusal} (Err (Damaged oldest 0)) (Ok cut) = is in cc)
+    by None (Some m) is = absurd (let fails : ◌≡◌ {A = Result ℤ Refusal} (Err (Damaged oldest 0)) (Ok cut) = is in cc)
 
 -- ---- a version of the history that is kept
 
@@ -129,7 +148,7 @@ module _ (events : List Told) (horizon : ℤ) (lawful : Lawful events horizon) (
       let none : gap_from place_at 0 (version + 1) ≡ None = no_number (gap_from place_at 0 (version + 1)) kept in
       subst (λ (gap : Option (List ℕ)). Exactly events limits now version (segment_by events version choice) (opened_chosen events limits now version (unless_gap (segment_by events version choice) gap))) (sym kept)
       (read_exactly events limits now version (segment_by events version choice) (table_is_whole events horizon lawful version below)
-      (reads events horizon lawful limits.object choice.staged_first (version + 1) (omega arith) (λ w less. no_gap place_at 0 (version + 1) none w (omega arith) (omega arith))))
+      (reads events horizon lawful choice.staged_first limits.object (version + 1) (omega arith) (λ w less. no_gap place_at 0 (version + 1) none w (omega arith) (omega arith))))
 
   -- ---- the asked version
 
@@ -187,13 +206,18 @@ module _ (events : List Told) (horizon : ℤ) (lawful : Lawful events horizon) (
   asks at snapshot opens =
       asks_by at snapshot (next_version events) refl (ap (λ (l : Option ℕ). opened_asked events limits choice now (version_asked at l)) (sym (latest_at (next_version events) refl)) ∙ opens)
 
-  state_is : (at : Option ℕ) (snapshot : Snapshot) → opened events limits at choice now ≡ Ok snapshot → snapshot.state ≡ table_at events snapshot.version
-  state_is at snapshot opens =
+  -- it is exactly the version that was opened
+  snapshot_exactly : (at : Option ℕ) (snapshot : Snapshot) → opened events limits at choice now ≡ Ok snapshot → IsExactly events limits now snapshot.version (segment_by events snapshot.version choice) snapshot
+  snapshot_exactly at snapshot opens =
       let asked : AsksVersion events at snapshot.version = asks at snapshot opens in
       let kept : IsKeptBy events snapshot.version choice = opened_is_kept events limits at choice now snapshot opens in
-      let exactly : IsExactly events limits now snapshot.version (segment_by events snapshot.version choice) snapshot =
-      subst (λ (result : Result Snapshot Refusal). Exactly events limits now snapshot.version (segment_by events snapshot.version choice) result) opens (opened_exactly at snapshot.version asked kept) in
-      exactly.state
+      subst (λ (result : Result Snapshot Refusal). Exactly events limits now snapshot.version (segment_by events snapshot.version choice) result) opens (opened_exactly at snapshot.version asked kept)
+
+  cut_is : (at : Option ℕ) (snapshot : Snapshot) → opened events limits at choice now ≡ Ok snapshot → HasCut snapshot.state.metadata now snapshot.cut
+  cut_is at snapshot opens =
+      let exactly = snapshot_exactly at snapshot opens in
+      let oldest : List ℕ = oldest_path (segment_by events snapshot.version choice).steps in
+      state_cut oldest snapshot.state now snapshot.cut (ap (λ (s : TableState). cut_of oldest s now) exactly.state ∙ exactly.cut)
 
   -- ---- what isn't
 
@@ -221,7 +245,11 @@ pub opened_is_asked : OpenedIsAsked
 opened_is_asked events horizon limits at choice now snapshot lawful opens = (asks events horizon lawful limits choice now at snapshot opens, opened_is_kept events limits at choice now snapshot opens)
 
 pub opened_is_table : OpenedIsTable
-opened_is_table events horizon limits at choice now snapshot lawful opens = state_is events horizon lawful limits choice now at snapshot opens
+opened_is_table events horizon limits at choice now snapshot lawful opens =
+    let exactly = snapshot_exactly events horizon lawful limits choice now at snapshot opens in exactly.state
+
+pub opened_has_cut : OpenedHasCut
+opened_has_cut events horizon limits at choice now snapshot lawful opens = cut_is events horizon lawful limits choice now at snapshot opens
 
 pub kept_is_answered : KeptIsAnswered
 kept_is_answered events horizon limits at choice now version lawful asks kept =

@@ -1,7 +1,7 @@
 -- On a lawful log the steps of a version whose commits are all there are read as the history's commits, where each of their objects is within the limit.
 use Rattle.std.proofs.Common.{◌≡◌, ℕ, ℤ, zero, suc, ◌+◌, ◌<◌, ◌≤◌, Bool, true, false, List, [], ◌∷◌, ◌++◌, length, get_or, take, Option, Some, None, refl, sym, ap, subst, ◌∙◌, arith, inl, inr}
 use Rattle.std.specs.Prelude.{Result, Ok, Err, IfSome, is_some, nat_lt, if◌then◌else◌}
-use Rattle.std.proofs.lemmas.Bool.{cases_lt, ltb-true, ltb-false}
+use Rattle.std.proofs.lemmas.Bool.{ltb-true, ltb-false}
 use Rattle.std.proofs.lemmas.Option.{slice_get-get_or}
 use Rattle.std.proofs.Math.Seq.{take-suc}
 use Rattle.dk_model.specs.declared.action.Action.{Action}
@@ -13,8 +13,9 @@ use Rattle.dk_lawful.specs.declared.segment.Step.{Step}
 use Rattle.dk_lawful.specs.declared.segment.Step.TheVariants.{Commit}
 use Rattle.dk_lawful.specs.History.{history, next_version, commits_of}
 use Rattle.dk_lawful.specs.Lawful.{Lawful}
-use Rattle.dk_lawful.specs.Segments.{commit_place, before_later, steps_from, gap_from}
+use Rattle.dk_lawful.specs.Segments.{commit_place, steps_from}
 use Rattle.dk_lawful.proofs.CommitPlaces.{history_small, placed_commit_means}
+use Rattle.dk_lawful.proofs.SegmentSteps.{some_of, steps_none, steps_last}
 use Rattle.dk_lawful.proofs.Sound.{length_commits}
 use Rattle.dk_engine.specs.declared.limits.Which.TheVariants.{Object}
 use Rattle.dk_engine.specs.declared.refusal.Refusal.{Refusal}
@@ -28,49 +29,6 @@ use Rattle.dk_snapshot.specs.Steps.{commit_in, fits, if_fits, step_path}
 use Rattle.dk_snapshot.proofs.History.{commit_of_object-is}
 use Rattle.dk_snapshot.proofs.LastVersion.{content_there}
 use Rattle.dk_snapshot.proofs.StepReads.{commits_last}
-
-some_of : {X : Type 0} (found : Option X) → is_some found ≡ true → (x : X) × (found ≡ Some x)
-some_of None is = cc
-some_of (Some x) is = (x, refl)
-
--- ---- the steps of a segment
-
--- up to a version without a gap each version has its place
-pub no_gap : (place_at : ℕ → Option Place) (v count : ℕ) → gap_from place_at v count ≡ None → (w : ℕ) → v ≤ w → w < v + count → is_some (place_at w) ≡ true
-unfolding gap_from
-no_gap place_at v zero none w least less = absurd (omega arith)
-no_gap place_at v (suc count) none w least less = by (is_some (place_at v)) refl none (λ rest past. no_gap place_at (suc v) count rest w past (omega arith))
-  where
-    by : (there : Bool) → is_some (place_at v) ≡ there → (if there then gap_from place_at (suc v) count else Some v) ≡ None → (gap_from place_at (suc v) count ≡ None → suc v ≤ w → is_some (place_at w) ≡ true)
-        → is_some (place_at w) ≡ true
-    by true at rest later = elim (cases_lt v w) [ inl under ↦ later rest (omega arith) | inr past ↦ (let same : w ≡ v = omega arith in ap (λ n. is_some (place_at n)) same ∙ at) ]
-    by false at rest later = absurd (let no : ◌≡◌ {A = Option ℕ} (Some v) None = rest in cc)
-
--- where each version has its place there is no gap
-pub all_there : (place_at : ℕ → Option Place) (v count : ℕ) → ((w : ℕ) → w < v + count → is_some (place_at w) ≡ true) → gap_from place_at v count ≡ None
-unfolding gap_from
-all_there place_at v zero all = refl
-all_there place_at v (suc count) all = rw (all v (omega arith)) (all_there place_at (suc v) count (λ w less. all w (omega arith)))
-
--- the last version is the last step
-steps_last : (place_at : ℕ → Option Place) (place : Place) (v count : ℕ) → ((w : ℕ) → v ≤ w → w < v + suc count → is_some (place_at w) ≡ true) → place_at (v + count) ≡ Some place
-    → steps_from place_at v (suc count) ≡ steps_from place_at v count ++ Commit (v + count) (place_path place) ∷ []
-unfolding steps_from
-steps_last place_at place v zero all is =
-    let here : v ≡ v + 0 = omega arith in
-    ap (λ (p : Option Place). before_later v p []) (ap place_at here ∙ is) ∙ ap (λ (n : ℕ). Commit n (place_path place) ∷ []) here
-steps_last place_at place v (suc count) all is =
-    let first = some_of (place_at v) (all v (omega arith) (omega arith)) in
-    let next : suc v + count ≡ v + suc count = omega arith in
-    let rest : steps_from place_at (suc v) (suc count) ≡ steps_from place_at (suc v) count ++ Commit (suc v + count) (place_path place) ∷ [] =
-    steps_last place_at place (suc v) count (λ w least less. all w (omega arith) (omega arith)) (ap place_at next ∙ is) in
-    ap (λ (p : Option Place). before_later v p (steps_from place_at (suc v) (suc count))) first.1
-    ∙ ap (λ (later : List Step). Commit v (place_path first.0) ∷ later) (rest ∙ ap (λ (n : ℕ). steps_from place_at (suc v) count ++ Commit n (place_path place) ∷ []) next)
-    ∙ ap (λ (p : Option Place). before_later v p (steps_from place_at (suc v) count) ++ Commit (v + suc count) (place_path place) ∷ []) (sym first.1)
-
-steps_none : (place_at : ℕ → Option Place) (v : ℕ) → steps_from place_at v 0 ≡ []
-unfolding steps_from
-steps_none place_at v = refl
 
 -- ---- what is read
 
@@ -119,15 +77,15 @@ module _ (events : List Told) (limit : ℕ) where
       by None is = fine (subst (λ (s : Option ℕ). IfSome s (λ size. size ≤ limit)) (sym is) tt)
       by (Some size) is = by_test size (nat_lt limit size) is refl
 
-module _ (events : List Told) (horizon : ℤ) (lawful : Lawful events horizon) (limit : ℕ) (staged_first : Bool) where
+module _ (events : List Told) (horizon : ℤ) (lawful : Lawful events horizon) (staged_first : Bool) where
   abbrev place_at : ℕ → Option Place
   place_at = commit_place (stands_at events) (standing events) staged_first
 
   abbrev commits : List (List Action)
   commits = commits_of (history events)
 
-  -- the object at a version's place means the history's commit
-  commit_there : (version : ℕ) (place : Place) → version < next_version events → place_at version ≡ Some place
+  -- the object at the place of a version of the history means the history's commit
+  pub commit_there : (version : ℕ) (place : Place) → version < next_version events → place_at version ≡ Some place
       → commit_of_object (place_path place) (content events (place_path place)) ≡ Ok (get_or commits version [])
   commit_there version place below is =
       let long = length_commits (history events) in
@@ -136,10 +94,10 @@ module _ (events : List Told) (horizon : ℤ) (lawful : Lawful events horizon) (
       (placed_commit_means events horizon lawful (stands_at events) (λ p there. content_there events (place_path p) there) staged_first version place (history_small events horizon lawful version below) is
       ∙ slice_get-get_or commits version [] inside)
 
-  pub reads : (count : ℕ) → count ≤ next_version events → ((w : ℕ) → w < count → is_some (place_at w) ≡ true)
+  pub reads : (limit count : ℕ) → count ≤ next_version events → ((w : ℕ) → w < count → is_some (place_at w) ≡ true)
       → ReadsTo events limit (steps_from place_at 0 count) (take count commits) (reading.commits_of events limit (steps_from place_at 0 count))
-  reads zero most all = subst (λ (steps : List Step). ReadsTo events limit steps (take 0 commits) (reading.commits_of events limit steps)) (sym (steps_none place_at 0)) (refl, tt)
-  reads (suc k) most all =
+  reads limit zero most all = subst (λ (steps : List Step). ReadsTo events limit steps (take 0 commits) (reading.commits_of events limit steps)) (sym (steps_none place_at 0)) (refl, tt)
+  reads limit (suc k) most all =
       let here = some_of (place_at k) (all k (omega arith)) in
       let front : List Step = steps_from place_at 0 k in
       let step : Step = Commit (0 + k) (place_path here.0) in
@@ -149,7 +107,7 @@ module _ (events : List Told) (horizon : ℤ) (lawful : Lawful events horizon) (
       let inside : k < length commits = omega arith in
       let meant = commit_there k here.0 (omega arith) here.1 in
       let read : ReadsTo events limit (front ++ step ∷ []) (take k commits ++ get_or commits k [] ∷ []) (newest_behind (commit_in events limit (step_path step)) (reading.commits_of events limit front)) =
-      one_more events limit front step (take k commits) (get_or commits k []) (reading.commits_of events limit front) meant (reads k (omega arith) (λ w less. all w (omega arith))) in
+      one_more events limit front step (take k commits) (get_or commits k []) (reading.commits_of events limit front) meant (reads limit k (omega arith) (λ w less. all w (omega arith))) in
       subst (λ (steps : List Step). ReadsTo events limit steps (take (suc k) commits) (reading.commits_of events limit steps)) (sym whole)
       (subst (λ (r : Result (List (List Action)) Refusal). ReadsTo events limit (front ++ step ∷ []) (take (suc k) commits) r) (sym (commits_last events limit front step))
       (subst (λ (found : List (List Action)). ReadsTo events limit (front ++ step ∷ []) found (newest_behind (commit_in events limit (step_path step)) (reading.commits_of events limit front)))

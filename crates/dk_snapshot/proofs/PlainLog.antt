@@ -23,7 +23,8 @@ use Rattle.dk_lawful.specs.declared.segment.Choice.{Choice}
 use Rattle.dk_lawful.specs.declared.segment.Segment.{Segment}
 use Rattle.dk_lawful.specs.declared.segment.Step.{Step}
 use Rattle.dk_lawful.specs.declared.segment.Step.TheVariants as steps
-use Rattle.dk_lawful.specs.Segments.{staged_at, commit_place, before_later, steps_from, gap_from, segment_of}
+use Rattle.dk_lawful.specs.Segments.{staged_at, commit_place, steps_from, gap_from, segment_of}
+use Rattle.dk_lawful.proofs.SegmentSteps.{all_there, steps_none, steps_last}
 use Rattle.dk_engine.specs.declared.limits.Limits.{Limits}
 use Rattle.dk_engine.specs.declared.refusal.Refusal.{Refusal}
 use Rattle.dk_engine.specs.declared.refusal.Refusal.TheVariants.{NoVersion}
@@ -200,30 +201,11 @@ asked_log (Some asked) last log version long (is, below) =
 
 -- ---- the segment and its commits
 
-gap_none : (place_at : ℕ → Option Place) (v count : ℕ) → ((w : ℕ) → w < v + count → is_some (place_at w) ≡ true) → gap_from place_at v count ≡ None
-unfolding gap_from
-gap_none place_at v zero all = refl
-gap_none place_at v (suc count) all = rw (all v (omega arith)) (gap_none place_at (suc v) count (λ w less. all w (omega arith)))
-
 abbrev step_of : ℕ → Step
 step_of version = steps.Commit version (commit_path version)
 
-steps_last : (place_at : ℕ → Option Place) (v count : ℕ) → ((w : ℕ) → w < v + suc count → place_at w ≡ Some (Commit_at w)) → steps_from place_at v (suc count) ≡ steps_from place_at v count ++ step_of (v + count) ∷ []
-unfolding steps_from
-steps_last place_at v zero all =
-    let here : v ≡ v + 0 = omega arith in
-    ap (λ (place : Option Place). before_later v place []) (all v (omega arith)) ∙ ap (λ (n : ℕ). step_of n ∷ []) here
-steps_last place_at v (suc count) all =
-    let here : place_at v ≡ Some (Commit_at v) = all v (omega arith) in
-    let next : suc v + count ≡ v + suc count = omega arith in
-    let rest : steps_from place_at (suc v) (suc count) ≡ steps_from place_at (suc v) count ++ step_of (suc v + count) ∷ [] = steps_last place_at (suc v) count (λ w less. all w (omega arith)) in
-    ap (λ (place : Option Place). before_later v place (steps_from place_at (suc v) (suc count))) here
-    ∙ ap (λ (later : List Step). step_of v ∷ later) (rest ∙ ap (λ (n : ℕ). steps_from place_at (suc v) count ++ step_of n ∷ []) next)
-    ∙ ap (λ (place : Option Place). before_later v place (steps_from place_at (suc v) count) ++ step_of (v + suc count) ∷ []) (sym here)
-
-steps_none : (place_at : ℕ → Option Place) (v : ℕ) → steps_from place_at v 0 ≡ []
-unfolding steps_from
-steps_none place_at v = refl
+steps_more : (place_at : ℕ → Option Place) (v count : ℕ) → ((w : ℕ) → w < v + suc count → place_at w ≡ Some (Commit_at w)) → steps_from place_at v (suc count) ≡ steps_from place_at v count ++ step_of (v + count) ∷ []
+steps_more place_at v count all = steps_last place_at (Commit_at (v + count)) v count (λ w least less. ap (λ (place : Option Place). is_some place) (all w less)) (all (v + count) (omega arith))
 
 fits_within : (limit : ℕ) (size : Option ℕ) → IfSome size (λ s. s ≤ limit) → fits limit size ≡ Ok tt
 fits_within limit None within = refl
@@ -246,13 +228,13 @@ module _ (events : List Told) (log : List (List Action)) (is : IsLog events log)
   log_commits (suc count) most =
       let less : count < length log = omega arith in
       let same : 0 + count ≡ count = omega arith in
-      ap (commits_of events limit) (steps_last at 0 count (λ w under. place_stands w (omega arith)) ∙ ap (λ (n : ℕ). steps_from at 0 count ++ step_of n ∷ []) same)
+      ap (commits_of events limit) (steps_more at 0 count (λ w under. place_stands w (omega arith)) ∙ ap (λ (n : ℕ). steps_from at 0 count ++ step_of n ∷ []) same)
       ∙ commits_last events limit (steps_from at 0 count) (step_of count)
       ∙ ap₂ newest_behind (commit_reads count less) (log_commits count (omega arith))
       ∙ ap Ok (sym (take-suc log count [] less))
 
   no_gap : (count : ℕ) → count ≤ length log → gap_from at 0 count ≡ None
-  no_gap count most = gap_none at 0 count (λ w less. ap (λ (place : Option Place). is_some place) (place_stands w (omega arith)))
+  no_gap count most = all_there at 0 count (λ w less. ap (λ (place : Option Place). is_some place) (place_stands w (omega arith)))
 
 -- ---- a version of the log
 

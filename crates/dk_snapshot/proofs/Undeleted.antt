@@ -13,12 +13,12 @@ use Rattle.dk_paths.proofs.StagedNames.{staged_of-staged_name}
 use Rattle.dk_lawful.specs.History.{next_version}
 use Rattle.dk_lawful.specs.Present.{Present, Available}
 use Rattle.dk_lawful.specs.Segments.{if_present, id_of, id_named, published_at, staged_at, preferred, commit_place}
+use Rattle.dk_lawful.proofs.SegmentSteps.{all_there}
 use Rattle.dk_lawful.proofs.Standing.{held_at}
 use Rattle.dk_lawful.proofs.Stays.{kept_from_floor}
 use Rattle.dk_listing.specs.OfEvents.{stands_at}
 use Rattle.dk_snapshot.specs.LawfulOpens.{UndeletedIsKept}
 use Rattle.dk_snapshot.proofs.LastVersion.{object_there}
-use Rattle.dk_snapshot.proofs.LawfulReads.{all_there}
 
 first_some : (one other : Option Place) → is_some one ≡ true → is_some (option_or one other) ≡ true
 first_some None other none = absurd (true≢false (sym none))
@@ -54,7 +54,7 @@ staged_there events version id stands at =
     ∙ ap (λ (found : Option ℕ). is_some (option_and_then (λ i. if_present (stands_at events) (Staged version i)) found)) named
     ∙ present_some (stands_at events (Staged version id)) (Staged version id) (present_stands events (Staged version id) at)
 
-available_there : (events : List Told) (staged_first : Bool) (version : ℕ) → Available events version → is_some (commit_place (stands_at events) (standing events) staged_first version) ≡ true
+pub available_there : (events : List Told) (staged_first : Bool) (version : ℕ) → Available events version → is_some (commit_place (stands_at events) (standing events) staged_first version) ≡ true
 available_there events staged_first version (inl at) =
     prefers_second staged_first (staged_at (stands_at events) (standing events) version) (published_at (stands_at events) version)
     (present_some (stands_at events (Commit_at version)) (Commit_at version) (present_stands events (Commit_at version) at))

@@ -1,6 +1,7 @@
 -- What opens of a lawful log, by its history (Delta Lake's PROTOCOL.md, "Delta Log Entries", "Checkpoints", "Catalog-managed tables").
 use Rattle.std.specs.Prelude.{ℕ, zero, suc, ℤ, ◌≡◌, ◌<◌, ◌≤◌, ◌+◌, ◌⊎◌, List, [], ◌∷◌, Option, Some, None, Result, Ok, Err, IfSome}
 use Rattle.std.specs.List.{AllByRecursion}
+use Rattle.dk_model.specs.declared.action.Metadata.{Metadata}
 use Rattle.dk_store.specs.Told.{Told}
 use Rattle.dk_store.specs.Standings.{standing}
 use Rattle.dk_paths.specs.Names.{commit_path}
@@ -21,7 +22,7 @@ use Rattle.dk_listing.specs.Sizes.{stored_size}
 use Rattle.dk_snapshot.specs.declared.table.Snapshot.{Snapshot}
 use Rattle.dk_snapshot.specs.Opening.{opened}
 use Rattle.dk_snapshot.specs.Steps.{oldest_path, step_path}
-use Rattle.dk_snapshot.specs.Support.{cut_of}
+use Rattle.dk_snapshot.specs.Support.{retention, cut_before, cut_of}
 
 -- ---- versions
 
@@ -58,6 +59,15 @@ OpenedIsAsked = (events : List Told) (horizon : ℤ) (limits : Limits) (at : Opt
 abbrev pub OpenedIsTable : Type 0
 OpenedIsTable = (events : List Told) (horizon : ℤ) (limits : Limits) (at : Option ℕ) (choice : Choice) (now : ℤ) (snapshot : Snapshot) → Lawful events horizon
     → opened events limits at choice now ≡ Ok snapshot → snapshot.state ≡ table_at events snapshot.version
+
+-- its removed files are told from the moment of the call on, less the time that the table keeps them
+abbrev pub HasCut : Option Metadata → ℤ → ℤ → Type 0
+HasCut None now cut = ⊥
+HasCut (Some metadata) now cut = (kept : ℤ) × (retention metadata ≡ Some kept) × (cut ≡ cut_before now kept)
+
+abbrev pub OpenedHasCut : Type 0
+OpenedHasCut = (events : List Told) (horizon : ℤ) (limits : Limits) (at : Option ℕ) (choice : Choice) (now : ℤ) (snapshot : Snapshot) → Lawful events horizon
+    → opened events limits at choice now ≡ Ok snapshot → HasCut snapshot.state.metadata now snapshot.cut
 
 -- ---- a version of the history that is kept
 

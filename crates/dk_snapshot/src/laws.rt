@@ -1,6 +1,6 @@
 //! Laws of what a version is, over the events of a store. None of these functions does anything when it runs.
 ghost use Rattle.dk_snapshot.specs.KeptVersions.{NotKeptIsMissing, OpenedIsKept};
-ghost use Rattle.dk_snapshot.specs.LawfulOpens.{AboveIsNoVersion, EmptyIsMissing, GapIsMissing, KeptIsAnswered, LatestIsLast, OpenedIsAsked, OpenedIsTable, UndeletedIsKept};
+ghost use Rattle.dk_snapshot.specs.LawfulOpens.{AboveIsNoVersion, EmptyIsMissing, GapIsMissing, KeptIsAnswered, LatestIsLast, OpenedHasCut, OpenedIsAsked, OpenedIsTable, UndeletedIsKept};
 ghost use Rattle.dk_snapshot.specs.LatestVersion.{LatestIsGreatest, ListedIsGreatest};
 
 /// The latest version of a store's events, and so of a listing of them, is the greatest one that is published, stands
@@ -19,17 +19,19 @@ pub fn opened_is_kept()
 {}
 
 /// On a lawful log a version opens exactly where the history has it and it is kept, and its state is that of the history's
-/// commits up to it. Without an asked version it is the last one of the history. A version of the history that is kept
-/// opens, unless one of its objects is over the limit or the table asks for what isn't read; so it is never `Missing`,
-/// `NoVersion` or `Damaged`. As long as no deletion has taken what a version needs, each one is kept. One that isn't
-/// kept is `Missing` of its first missing commit, and one above the last is `NoVersion` (Delta Lake's PROTOCOL.md, "Delta
-/// Log Entries", "Action Reconciliation", "Catalog-managed tables").
+/// commits up to it. Without an asked version it is the last one of the history. Its cut is the moment of the call, less the
+/// time that the table keeps removed files. A version of the history that is kept opens, unless one of its objects is
+/// over the limit or the table asks for what isn't read; so it is never `Missing`, `NoVersion` or `Damaged`. As long as no
+/// deletion has taken what a version needs, each one is kept. One that isn't kept is `Missing` of its first missing commit,
+/// and one above the last is `NoVersion` (Delta Lake's PROTOCOL.md, "Delta Log Entries", "Action Reconciliation",
+/// "Catalog-managed tables").
 pub fn lawful_opens()
     ensures latest { LatestIsLast }
 
     // what is answered
     ensures asked { OpenedIsAsked }
     ensures state { OpenedIsTable }
+    ensures cut { OpenedHasCut }
 
     // each version of the history
     ensures kept { KeptIsAnswered }

@@ -13,6 +13,9 @@ returns-clause-asked c = lemmas.opened_is_asked
 pub returns-clause-state : goal.returns-clause-state
 returns-clause-state c = lemmas.opened_is_table
 
+pub returns-clause-cut : goal.returns-clause-cut
+returns-clause-cut c = lemmas.opened_has_cut
+
 pub returns-clause-kept : goal.returns-clause-kept
 returns-clause-kept c = lemmas.kept_is_answered
 
