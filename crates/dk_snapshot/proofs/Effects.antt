@@ -2,8 +2,9 @@
 use Rattle.std.proofs.Common.{◌≡◌, List, [], ◌∷◌, ◌++◌, refl, ap, sym, subst, ◌∙◌, append_assoc, reverse}
 use Rattle.std.proofs.lemmas.List.{reverse-append}
 use Rattle.std.proofs.lemmas.List.Elements.{filter-append}
-use Rattle.std.specs.Prelude.{ℕ, ℤ, Bool, true, false, not, Option, Some, None, is_some, Result, Ok, Err, IfOk, codes, decimal, if◌then◌else◌}
+use Rattle.std.specs.Prelude.{ℕ, ℤ, Bool, true, false, Option, Some, None, is_some, Result, Ok, Err, IfOk, if◌then◌else◌}
 use Rattle.std.specs.List.{AllByRecursion}
+use Rattle.std.specs.Option.{option_or}
 use Rattle.dk_model.specs.declared.action.AddFile.{AddFile}
 use Rattle.dk_model.specs.declared.action.Metadata.{Metadata}
 use Rattle.dk_model.specs.declared.action.Protocol.{Protocol}
@@ -14,7 +15,9 @@ use Rattle.dk_engine.specs.declared.refusal.Refusal.{Refusal}
 use Rattle.dk_engine.specs.declared.refusal.Refusal.TheVariants.{Damaged, Unsupported}
 use Rattle.dk_snapshot.specs.declared.table.Snapshot.{Snapshot}
 use Rattle.dk_snapshot.specs.Opening.{snapshot_with}
-use Rattle.dk_snapshot.specs.Support.{IsComplete, cut_of, cut_unless, cut_with, has_vectors, is_reader_known, retention}
+use Rattle.dk_features.specs.Names.{deletion_vectors}
+use Rattle.dk_features.specs.Support.{unread_name}
+use Rattle.dk_snapshot.specs.Support.{IsComplete, cut_of, cut_unless, cut_with, has_vectors, retention}
 use Rattle.std.specs.List.{filter}
 use Rattle.dk_model.specs.declared.action.Action.{Action}
 use Rattle.dk_model.specs.declared.action.Action.TheVariants as action
@@ -87,12 +90,12 @@ opened_parts : (oldest : List ℕ) (protocol : Option Protocol) (metadata : Opti
     → (is_some protocol ≡ true) × (is_some metadata ≡ true) × (has_vectors files ≡ false)
 opened_parts oldest None metadata files now cut is = absurd (let no : ◌≡◌ {A = Result ℤ Refusal} (Err (Damaged oldest 0)) (Ok cut) = is in cc)
 opened_parts oldest (Some protocol) None files now cut is = absurd (let no : ◌≡◌ {A = Result ℤ Refusal} (Err (Damaged oldest 0)) (Ok cut) = is in cc)
-opened_parts oldest (Some protocol) (Some metadata) files now cut is = (refl, refl, by (is_reader_known protocol) (has_vectors files) is)
+opened_parts oldest (Some protocol) (Some metadata) files now cut is = (refl, refl, by (unread_name protocol) (has_vectors files) is)
   where
-    by : (known vectors : Bool) → cut_unless (if not known then Some (codes "minReaderVersion " ++ decimal protocol.min_reader) else if vectors then Some (codes "deletionVectors") else None) (retention metadata) now ≡ Ok cut → vectors ≡ false
-    by known false given = refl
-    by true true given = absurd (let no : ◌≡◌ {A = Result ℤ Refusal} (Err (Unsupported (codes "deletionVectors"))) (Ok cut) = given in cc)
-    by false true given = absurd (let no : ◌≡◌ {A = Result ℤ Refusal} (Err (Unsupported (codes "minReaderVersion " ++ decimal protocol.min_reader))) (Ok cut) = given in cc)
+    by : (name : Option (List ℕ)) (vectors : Bool) → cut_unless (option_or name (if vectors then Some deletion_vectors else None)) (retention metadata) now ≡ Ok cut → vectors ≡ false
+    by name false given = refl
+    by None true given = absurd (let no : ◌≡◌ {A = Result ℤ Refusal} (Err (Unsupported deletion_vectors)) (Ok cut) = given in cc)
+    by (Some name) true given = absurd (let no : ◌≡◌ {A = Result ℤ Refusal} (Err (Unsupported name)) (Ok cut) = given in cc)
 
 pub opened_is_complete : (oldest : List ℕ) (state : TableState) (now cut : ℤ) → IsWellKept state → cut_of oldest state now ≡ Ok cut → IsComplete state
 opened_is_complete oldest state now cut kept is =

@@ -1,6 +1,7 @@
 -- The commits of a whole log stand and mean themselves, and the cut of a state that passes the tests.
-use Rattle.std.proofs.Common.{◌≡◌, ℕ, ℤ, ◌-◌, ◌<◌, ◌≤◌, ◌^◌, List, [], length, get_or, refl, ap, ap₂, ◌∙◌, true, false, not, ◌++◌, codes, decimal, arith}
+use Rattle.std.proofs.Common.{◌≡◌, ℕ, ℤ, ◌-◌, ◌<◌, ◌≤◌, ◌^◌, List, [], length, get_or, refl, ap, ap₂, ◌∙◌, true, false, arith}
 use Rattle.std.specs.Prelude.{Option, Some, None, Result, Ok, Err, option_and_then, option_map, is_some, if◌then◌else◌}
+use Rattle.std.specs.Option.{option_or}
 use Rattle.std.proofs.lemmas.Option.{slice_get-get_or}
 use Rattle.dk_store.specs.Told.{Told, Stored}
 use Rattle.dk_store.specs.Objects.{object, content}
@@ -8,6 +9,9 @@ use Rattle.dk_model.specs.declared.action.Action.{Action}
 use Rattle.dk_model.specs.declared.state.TableState.{TableState}
 use Rattle.dk_model.specs.CommitText.{commit_of, reading_of}
 use Rattle.dk_model.specs.CommitText as texts
+use Rattle.dk_model.specs.declared.action.Protocol.{Protocol}
+use Rattle.dk_features.specs.Names.{deletion_vectors}
+use Rattle.dk_features.specs.Support.{fault_name, unread, unread_name}
 use Rattle.dk_paths.specs.Names.{commit_path}
 use Rattle.dk_snapshot.specs.Log.{commit_of_object, meant}
 use Rattle.dk_snapshot.specs.History.{IsLog}
@@ -51,9 +55,13 @@ module _ (events : List Told) (log : List (List Action)) (is : IsLog events log)
       let small : length log ≤ 2 ^ 63 = is.small in
       greatest_below-is (stands events) (2 ^ 63) (length log - 1) (omega arith) (stands_in (length log - 1) (omega arith)) (λ w a b. stands_above w (omega arith) b)
 
+none_named : (protocol : Protocol) → unread protocol ≡ None → unread_name protocol ≡ None
+unfolding unread_name
+none_named protocol none = ap (option_map (fault_name protocol)) none
+
 -- the cut of a state that passes the tests
 pub cut_is : (oldest : List ℕ) (state : TableState) (kept now : ℤ) → IsRead state kept → cut_of oldest state now ≡ Ok (cut_before now kept)
 cut_is oldest state kept now read =
     ap₂ (λ p m. cut_with oldest p m state.files now) read.has_protocol read.has_metadata
-    ∙ ap₂ (λ reader vectors. cut_unless (if not reader then Some (codes "minReaderVersion " ++ decimal read.protocol.min_reader) else if vectors then Some (codes "deletionVectors") else None) (retention read.metadata) now) read.reader read.vectors
+    ∙ ap₂ (λ (name : Option (List ℕ)) vectors. cut_unless (option_or name (if vectors then Some deletion_vectors else None)) (retention read.metadata) now) (none_named read.protocol read.reader) read.vectors
     ∙ ap (λ kept. cut_by kept now) read.retention

@@ -1,9 +1,10 @@
--- Which tables are read so far, and from which moment on their removed files are still told (Delta Lake's PROTOCOL.md, "Protocol
+-- Which tables are read, and from which moment on their removed files are still told (Delta Lake's PROTOCOL.md, "Protocol
 -- Evolution", "Reader Requirements for Deletion Vectors", "Add File and Remove File").
-use Rattle.std.specs.Prelude.{ℕ, ℤ, pos, negsuc, ◌-ℤ◌, ◌^◌, ◌-◌, ◌==◌, ◌||◌, ◌++◌, not, Bool, true, false, ◌≡◌, List, Option, Some, None, IsSome, Result, Ok, Err, if◌then◌else◌, codes, decimal}
+use Rattle.std.specs.Prelude.{ℕ, ℤ, pos, negsuc, ◌-ℤ◌, ◌^◌, ◌-◌, Bool, false, ◌≡◌, List, Option, Some, None, IsSome, Result, Ok, Err, if◌then◌else◌, codes}
 use Rattle.std.specs.FinMap as map
 use Rattle.std.specs.Int.{int_max}
 use Rattle.std.specs.List.{list_any}
+use Rattle.std.specs.Option.{option_or}
 use Rattle.dk_model.specs.declared.action.AddFile.{AddFile}
 use Rattle.dk_model.specs.declared.action.Protocol.{Protocol}
 use Rattle.dk_model.specs.declared.action.Metadata.{Metadata}
@@ -11,26 +12,21 @@ use Rattle.dk_model.specs.declared.state.TableState.{TableState}
 use Rattle.dk_model.specs.Settings.{setting}
 use Rattle.dk_model.specs.Texts.{ByText}
 use Rattle.dk_model.specs.WellKept.{IsWellKept}
+use Rattle.dk_features.specs.Names.{deletion_vectors}
+use Rattle.dk_features.specs.Support.{unread, unread_name}
 use Rattle.dk_paths.specs.Intervals.{interval_of}
 use Rattle.dk_engine.specs.declared.refusal.Refusal.{Refusal}
 use Rattle.dk_engine.specs.declared.refusal.Refusal.TheVariants.{Damaged, Unsupported}
 
 -- ---- support
 
--- reader versions 1 and 2 are read
-abbrev pub is_reader_known : Protocol → Bool
-is_reader_known protocol = protocol.min_reader == 1 || protocol.min_reader == 2
-
 -- a deletion vector stands beside a file
 abbrev pub has_vectors : ByText AddFile → Bool
 has_vectors files = list_any (λ file. file.1.vector) (map.entries files)
 
--- what isn't read so far, by its name: another reader version first, then deletion vectors
-abbrev pub unread : Protocol → ByText AddFile → Option (List ℕ)
-unread protocol files =
-    if not (is_reader_known protocol) then Some (codes "minReaderVersion " ++ decimal protocol.min_reader)
-    else if has_vectors files then Some (codes "deletionVectors")
-    else None
+-- what isn't read, by its name: what the protocol asks for first, then deletion vectors
+abbrev pub unreadable : Protocol → ByText AddFile → Option (List ℕ)
+unreadable protocol files = option_or (unread_name protocol) (if has_vectors files then Some deletion_vectors else None)
 
 -- ---- retention
 
@@ -65,7 +61,7 @@ first_commit = codes "_delta_log/00000000000000000000.json"
 
 -- a log without protocol or metadata is damaged as a whole, from its oldest object on, whose path this is
 abbrev pub cut_with : List ℕ → Option Protocol → Option Metadata → ByText AddFile → ℤ → Result ℤ Refusal
-cut_with oldest (Some protocol) (Some metadata) files now = cut_unless (unread protocol files) (retention metadata) now
+cut_with oldest (Some protocol) (Some metadata) files now = cut_unless (unreadable protocol files) (retention metadata) now
 cut_with oldest protocol metadata files now = Err (Damaged oldest 0)
 
 -- the cut of a state at a moment, or why it isn't opened
@@ -78,7 +74,7 @@ pub record IsRead (state : TableState) (kept : ℤ) : Type 0 where
   pub metadata : Metadata
   pub has_protocol : state.protocol ≡ Some protocol
   pub has_metadata : state.metadata ≡ Some metadata
-  pub reader : is_reader_known protocol ≡ true
+  pub reader : unread protocol ≡ None
   pub vectors : has_vectors state.files ≡ false
   pub retention : retention metadata ≡ Some kept
 

@@ -16,5 +16,6 @@ mod usual;
 
 pub use catalogue::survey;
 pub use opening::{open_at, open_listed};
+pub use support::unreadable;
 pub use table::Snapshot;
 pub use usual::usual_choice;

@@ -179,8 +179,8 @@ fn open_surveyed(
 /// memory it is refused, in this order: `Missing` of version 0 where the log is empty, `NoVersion` where the asked version
 /// is above the latest, `Missing` of the first commit up to it that is absent, for the newest commit that can't be read
 /// `Limit` of `Object` where it is greater than `limits.object` bytes or else `Damaged` where it means nothing, `Damaged`
-/// of the oldest object, as a whole, where the table has no protocol or no metadata, and `Unsupported` of another reader
-/// version than 1 or 2, of deletion vectors, and of a retention of removed files that is no interval.
+/// of the oldest object, as a whole, where the table has no protocol or no metadata, and `Unsupported` of the
+/// first reader version or feature that isn't read, of deletion vectors, and of a retention of removed files that is no interval.
 ///
 /// Over every store, also one that tells no events, the state that is answered has what writers of checkpoints need of it.
 pub fn open_at(

@@ -1,9 +1,10 @@
 //! Which states are opened, and from which moment on their removed files are still told.
 ghost use Rattle.std.specs.Prelude.{◌≡◌, ◌≤ℤ◌, ℕ, pos, List, Err, Some, IfOk, IfSome};
 ghost use Rattle.dk_engine.specs.Answers.{Gives};
-ghost use Rattle.dk_snapshot.specs.Support.{cut_before, cut_of, cut_unless, has_vectors, is_reader_known, retention, unread};
+ghost use Rattle.dk_snapshot.specs.Support.{cut_before, cut_of, cut_unless, has_vectors, retention, unreadable};
 
 use dk_engine::Refusal;
+use dk_features::unread_name;
 use dk_model::{AddFile, Metadata, Protocol, TableState, Text, TextMap};
 use dk_paths::read_interval;
 use std::alloc::{AllocError, Global};
@@ -17,12 +18,6 @@ pub(crate) const FIRST_COMMIT: &str = "_delta_log/00000000000000000000.json";
 /// How long removed files are told where it isn't set, in milliseconds: one week.
 const USUAL_RETENTION: i128 = 604_800_000;
 
-fn is_reader_known(protocol: &Protocol) -> bool
-    ensures { result ≡ is_reader_known protocol.now }
-{
-    protocol.min_reader == 1 || protocol.min_reader == 2
-}
-
 /// Whether a deletion vector stands beside a file.
 fn has_vectors(files: &TextMap<AddFile>) -> bool
     ensures { result ≡ has_vectors files.now }
@@ -35,18 +30,18 @@ fn has_vectors(files: &TextMap<AddFile>) -> bool
     false
 }
 
-/// What isn't read so far, by its name.
-fn unread(
+/// What isn't read of a table with this protocol and these live files, by its name: what the protocol asks for
+/// ([`dk_features::unread_name`]), then `deletionVectors` where one stands beside a file; None where all is read (Delta Lake's
+/// PROTOCOL.md, "Reader Requirements", "Reader Requirements for Deletion Vectors").
+pub fn unreadable(
     alloc: Global,
     protocol: &Protocol,
     files: &TextMap<AddFile>,
 ) -> Result<Option<Text>, AllocError>
-    ensures { IfOk result (λ name. name ≡ unread protocol.now files.now) }
+    ensures { IfOk result (λ name. name ≡ unreadable protocol.now files.now) }
 {
-    if !is_reader_known(protocol) {
-        let version = protocol.min_reader;
-        let name = format!(in alloc; "minReaderVersion {version}")?;
-        return Ok(Some(Text::new(name)));
+    if let Some(name) = unread_name(alloc, protocol)? {
+        return Ok(Some(name));
     }
     if has_vectors(files) {
         return Ok(Some(Text::from_str(alloc, "deletionVectors")?));
@@ -81,11 +76,11 @@ fn cut_with(
     files: &TextMap<AddFile>,
     now: i64,
 ) -> Result<i64, Refusal>
-    ensures means { Gives (λ cut. cut) result (cut_unless (unread protocol.now files.now) (retention metadata.now) now) }
+    ensures means { Gives (λ cut. cut) result (cut_unless (unreadable protocol.now files.now) (retention metadata.now) now) }
     ensures store { result ≡ Err Refusal.Store → ⊥ }
     ensures taken { (path : List ℕ) → result ≡ Err (Refusal.Taken path) → ⊥ }
 {
-    if let Some(name) = unread(alloc, protocol, files)? {
+    if let Some(name) = unreadable(alloc, protocol, files)? {
         return Err(Refusal::Unsupported { name });
     }
     match retention(metadata) {

@@ -1,22 +1,21 @@
 -- What a commit comes after is the latest version, so the commit is the next one of the history.
-use Rattle.std.proofs.Common.{◌≡◌, ℕ, ℤ, ◌+◌, ◌<◌, ◌^◌, Bool, true, false, true≢false, List, [], ◌∷◌, length, refl, ap, sym, subst, ◌∙◌, arith, inl, inr}
+use Rattle.std.proofs.Common.{◌≡◌, ℕ, ℤ, ◌+◌, ◌<◌, ◌^◌, Bool, true, false, List, [], ◌∷◌, length, refl, ap, sym, subst, ◌∙◌, arith, inl, inr}
 use Rattle.std.specs.Prelude.{Option, Some, None, Result, Ok, Err, IsNone, ◌==◌, if◌then◌else◌}
 use Rattle.std.proofs.lemmas.Bool.{cases_lt}
 use Rattle.dk_store.specs.Told.{Told}
 use Rattle.dk_store.specs.Objects.{object}
 use Rattle.dk_model.specs.declared.action.Action.{Action}
-use Rattle.dk_model.specs.declared.action.Protocol.{Protocol}
 use Rattle.dk_model.specs.State.{empty_state}
 use Rattle.dk_paths.specs.Names.{commit_path}
 use Rattle.dk_engine.specs.declared.limits.Limits.{Limits}
 use Rattle.dk_engine.specs.declared.limits.Which.TheVariants as which
 use Rattle.dk_engine.specs.declared.refusal.Refusal.{Refusal}
 use Rattle.dk_engine.specs.declared.refusal.Refusal.TheVariants as refusals
-use Rattle.dk_lawful.specs.Managed.{is_managed, asks_for_catalogue}
+use Rattle.dk_lawful.specs.Managed.{is_managed}
 use Rattle.dk_lawful.specs.History.{RatifiedCommit, history, next_version, state_of, table}
 use Rattle.dk_lawful.specs.Lawful.{Lawful}
 use Rattle.dk_lawful.specs.Rules.{first_broken, IsValidNext}
-use Rattle.dk_lawful.proofs.Unmanaged.{writer_one_is_unmanaged}
+use Rattle.dk_lawful.proofs.Unmanaged.{goes_on_unmanaged}
 use Rattle.dk_listing.specs.OfEvents.{latest}
 use Rattle.dk_snapshot.specs.declared.table.Snapshot.{Snapshot}
 use Rattle.dk_snapshot.specs.Opening.{usual_choice, opened}
@@ -85,21 +84,13 @@ started events limits now from is small = by (latest events) refl is
 
 -- ---- the commit comes next
 
-supported : (protocol : Option Protocol) → unsupported protocol ≡ None → asks_for_catalogue protocol ≡ false
-supported None is = refl
-supported (Some p) is = by (p.min_writer == 1) _ refl is
-  where
-    by : (one : Bool) (name : List ℕ) → (p.min_writer == 1) ≡ one → (if one then None else Some name) ≡ None → asks_for_catalogue (Some p) ≡ false
-    by true name one is = writer_one_is_unmanaged (record empty_state { protocol = Some p }) one
-    by false name one is = absurd (let no : ◌≡◌ {A = Option (List ℕ)} (Some name) None = is in cc)
-
-comes_next : (events : List Told) (from : Start) (actions : List Action) (id : ℕ) → Started events from → unsupported from.before.protocol ≡ None
+comes_next : (events : List Told) (from : Start) (actions : List Action) (id : ℕ) → Started events from
     → first_broken from.before from.version (own_commit id actions) ≡ None → ComesNext from.version (own_commit id actions) events
-comes_next events from actions id begun supports valid horizon lawful =
+comes_next events from actions id begun valid horizon lawful =
     let state : from.before ≡ table events = begun.before horizon lawful in
     record {
       next = begun.next horizon lawful;
-      by_file = ap (λ s. is_managed s) (sym state) ∙ supported from.before.protocol supports;
+      by_file = ap (λ s. is_managed s) (sym state) ∙ goes_on_unmanaged from.before from.version (own_commit id actions) valid;
       valid = subst (λ s. IsValidNext s from.version (own_commit id actions)) state valid;
     }
 
@@ -115,7 +106,7 @@ within_is (Err refusal) meant writing is = cc
 pub attempt_next : (events : List Told) (limits : Limits) (actions : List Action) (now : ℤ) (id : ℕ) (writing : Writing) → writing.0 < 2 ^ 63 → attempt events limits actions now id ≡ Ok writing → Next events actions id writing
 attempt_next events limits actions now id writing small is = by (start events limits now) refl is
   where
-    by_verdict : (from : Start) (name : Option (List ℕ)) (broken : Option ℕ) → start events limits now ≡ Ok from → unsupported from.before.protocol ≡ name
+    by_verdict : (from : Start) (name : Option (List ℕ)) (broken : Option ℕ) → start events limits now ≡ Ok from → unsupported from.before ≡ name
         → first_broken from.before from.version (own_commit id actions) ≡ broken → if_allowed (verdict name broken) (if_within limits.object (from.version, commit_text id now actions)) ≡ Ok writing → Next events actions id writing
     by_verdict from (Some name) broken starts supports rules meant = cc
     by_verdict from None (Some rule) starts supports rules meant = cc
@@ -125,9 +116,9 @@ attempt_next events limits actions now id writing small is = by (start events li
         let begun : Started events from = started events limits now from starts (omega arith) in
         record {
           free = subst (λ v. IsNone (object events (commit_path v))) at begun.free;
-          comes = subst (λ v. ComesNext v (own_commit id actions) events) at (comes_next events from actions id begun supports rules);
+          comes = subst (λ v. ComesNext v (own_commit id actions) events) at (comes_next events from actions id begun rules);
         }
 
     by : (begun : Result Start Refusal) → start events limits now ≡ begun → attempt_from begun limits actions now id ≡ Ok writing → Next events actions id writing
     by (Err refusal) starts meant = cc
-    by (Ok from) starts meant = by_verdict from (unsupported from.before.protocol) (first_broken from.before from.version (own_commit id actions)) starts refl refl meant
+    by (Ok from) starts meant = by_verdict from (unsupported from.before) (first_broken from.before from.version (own_commit id actions)) starts refl refl meant

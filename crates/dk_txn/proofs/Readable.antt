@@ -14,28 +14,44 @@ use Rattle.dk_model.specs.Ranges.{IsWhole, IsProtocolInRange}
 use Rattle.dk_model.specs.ReadBack.{IsSound, IsReadable, own_info, written_of}
 use Rattle.dk_model.specs.Written.{own_info_line, text_of}
 use Rattle.dk_model.proofs.LinesBack.{own_reads_back, writable}
-use Rattle.dk_lawful.specs.Rules.{protocol_in, info_in, may_be_committed, has_first_form, is_not_lower, is_plain_add, keeps_heads, keeps_kinds, keeps_paths_apart, keeps_protocol, keeps_writer, keeps_adds, IsValidNext}
+use Rattle.dk_features.specs.Forms.{is_first_reader, has_form_with, has_form}
+use Rattle.dk_lawful.specs.Rules.{protocol_in, info_in, may_be_committed, may_follow, is_protocol_kept, is_plain_add, keeps_heads, keeps_kinds, keeps_paths_apart, keeps_names_apart, keeps_protocol, keeps_writer, keeps_rows, keeps_domains, keeps_adds, IsValidNext}
 
 -- the tests in a row that no rule broken passes
 passed : (kept : Bool) (rule : ℕ) (rest : Option ℕ) → (if not kept then Some rule else rest) ≡ None → (kept ≡ true) × (rest ≡ None)
 passed true rule rest none = (refl, none)
 passed false rule rest none = absurd (let no : ◌≡◌ {A = Option ℕ} (Some rule) None = none in cc)
 
-one_or_two : (version : ℕ) → (version == 1 || version == 2) ≡ true → version < 2 ^ 31
-one_or_two version is = by (version == 1) (version == 2) refl refl is
+first_reader : (version : ℕ) → is_first_reader version ≡ true → version < 2 ^ 31
+first_reader version is = by (version == 1) (version == 2) refl refl is
   where
     by : (one two : Bool) → (version == 1) ≡ one → (version == 2) ≡ two → (one || two) ≡ true → version < 2 ^ 31
     by true two first second is = let same : version ≡ 1 = eqb-true version 1 first in omega arith
     by false true first second is = let same : version ≡ 2 = eqb-true version 2 second in omega arith
     by false false first second is = absurd (true≢false (sym is))
 
-form_in_range : (before : Option Protocol) (p : Protocol) → has_first_form before p ≡ true → IsProtocolInRange p
-form_in_range before p form =
-    let three = and_parts _ (is_not_lower before p) form in
-    let two = and_parts _ _ three.0 in
-    let one = and_parts (p.min_reader == 1 || p.min_reader == 2) (nat_le 1 p.min_writer && nat_le p.min_writer 6) two.0 in
-    let most : p.min_writer ≤ 6 = leb-true p.min_writer 6 ((and_parts (nat_le 1 p.min_writer) (nat_le p.min_writer 6) one.1).1) in
-    record { reader = one_or_two p.min_reader one.0; writer = omega arith }
+at : (version number : ℕ) → number < 2 ^ 31 → (version == number) ≡ true → version < 2 ^ 31
+at version number small is = let same : version ≡ number = eqb-true version number is in omega arith
+
+-- the versions of a protocol that has one of the forms are in range
+form_in_range : (reader writer : ℕ) (readers writers : Option (List (List ℕ))) → has_form_with reader writer readers writers ≡ true → (reader < 2 ^ 31) × (writer < 2 ^ 31)
+form_in_range reader writer None None form =
+    let both = and_parts (is_first_reader reader) (nat_le 1 writer && nat_le writer 6) form in
+    let most : writer ≤ 6 = leb-true writer 6 ((and_parts (nat_le 1 writer) (nat_le writer 6) both.1).1) in
+    (first_reader reader both.0, omega arith)
+form_in_range reader writer None (Some names) form =
+    let both = and_parts (is_first_reader reader) (writer == 7) ((and_parts (is_first_reader reader && writer == 7) _ form).0) in
+    (first_reader reader both.0, at writer 7 (omega arith) both.1)
+form_in_range reader writer (Some names) None form = absurd (true≢false (sym form))
+form_in_range reader writer (Some names) (Some others) form =
+    let both = and_parts (reader == 3) (writer == 7) ((and_parts (reader == 3 && writer == 7) _ form).0) in
+    (at reader 3 (omega arith) both.0, at writer 7 (omega arith) both.1)
+
+kept_in_range : (before : Option Protocol) (p : Protocol) → is_protocol_kept before p ≡ true → IsProtocolInRange p
+unfolding has_form
+kept_in_range before p keeps =
+    let versions = form_in_range p.min_reader p.min_writer p.reader_features p.writer_features ((and_parts (has_form p) (may_follow before p) keeps).0) in
+    record { reader = versions.0; writer = versions.1 }
 
 bare : (f : AddFile) → is_plain_add (action.Add f) ≡ true → f.vector ≡ false
 bare f keeps = negated f.vector ((and_parts (int_le (pos 0) f.size) (not f.vector) keeps).1)
@@ -44,13 +60,13 @@ bare f keeps = negated f.vector ((and_parts (int_le (pos 0) f.size) (not f.vecto
     negated true e = absurd (true≢false (sym e))
     negated false e = refl
 
--- what is committed is read: its protocol has the first form, and no vector stands beside its files
-readable : (before : Option Protocol) (actions : List Action) → list_all (has_first_form before) (filter_map protocol_in actions) ≡ true → list_all may_be_committed actions ≡ true → keeps_adds actions ≡ true
+-- what is committed is read: its protocol has one of the forms, and no vector stands beside its files
+readable : (before : Option Protocol) (actions : List Action) → list_all (is_protocol_kept before) (filter_map protocol_in actions) ≡ true → list_all may_be_committed actions ≡ true → keeps_adds actions ≡ true
     → AllByRecursion IsReadable actions
 readable before [] forms kinds adds = tt
 readable before (action.Protocol p ∷ actions) forms kinds adds =
-    let both = and_parts (has_first_form before p) _ forms in
-    (record { versions = form_in_range before p both.0; no_vector = refl }, readable before actions both.1 kinds adds)
+    let both = and_parts (is_protocol_kept before p) _ forms in
+    (record { versions = kept_in_range before p both.0; no_vector = refl }, readable before actions both.1 kinds adds)
 readable before (action.Metadata m ∷ actions) forms kinds adds = (record { versions = tt; no_vector = refl }, readable before actions forms kinds adds)
 readable before (action.Add f ∷ actions) forms kinds adds =
     let both = and_parts (is_plain_add (action.Add f)) _ adds in
@@ -87,9 +103,12 @@ valid_reads txn_id before version actions valid =
     let one = passed (keeps_heads version (own_info txn_id ∷ actions)) 1 _ valid in
     let two = passed (keeps_kinds (own_info txn_id ∷ actions)) 2 _ one.1 in
     let three = passed (keeps_paths_apart (own_info txn_id ∷ actions)) 3 _ two.1 in
-    let five = passed (keeps_protocol before (own_info txn_id ∷ actions)) 5 _ three.1 in
+    let four = passed (keeps_names_apart (own_info txn_id ∷ actions)) 4 _ three.1 in
+    let five = passed (keeps_protocol before (own_info txn_id ∷ actions)) 5 _ four.1 in
     let six = passed (keeps_writer before (own_info txn_id ∷ actions)) 6 _ five.1 in
-    let eleven = passed (keeps_adds (own_info txn_id ∷ actions)) 11 _ six.1 in
+    let seven = passed (keeps_rows before (own_info txn_id ∷ actions)) 7 _ six.1 in
+    let eight = passed (keeps_domains before (own_info txn_id ∷ actions)) 8 _ seven.1 in
+    let eleven = passed (keeps_adds (own_info txn_id ∷ actions)) 11 _ eight.1 in
     let kinds = and_parts (nat_le (suc (length (filter_map info_in actions))) 1) (list_all may_be_committed actions) two.0 in
     let few : suc (length (filter_map info_in actions)) ≤ 1 = leb-true (suc (length (filter_map info_in actions))) 1 kinds.0 in
     record { each = readable before.protocol actions five.0 kinds.1 eleven.0; written = all_written actions (omega arith) kinds.1 }

@@ -46,7 +46,7 @@ pub allowed_reads : (from : Start) (actions : List Action) (id : ℕ) (text : Li
     → (AllByRecursion IsReadable actions → commit_of text ≡ Some (own_info (id_text id) ∷ written_of actions))
     → commit_of text ≡ Some (own_commit id actions)
 allowed_reads from actions id text u may reads =
-    let valid : IsValidNext from.before from.version (own_commit id actions) = no_rule (unsupported from.before.protocol) (first_broken from.before from.version (own_commit id actions)) u may in
+    let valid : IsValidNext from.before from.version (own_commit id actions) = no_rule (unsupported from.before) (first_broken from.before from.version (own_commit id actions)) u may in
     let itself = valid_reads (id_text id) from.before from.version actions valid in
     reads itself.each ∙ ap (λ (rest : List Action). Some (own_info (id_text id) ∷ rest)) itself.written
 

@@ -1,8 +1,13 @@
 -- What a commit over a log is to write, or why it is refused (Delta Lake's PROTOCOL.md, "Delta Log Entries", "Requirements for Writers").
-use Rattle.std.specs.Prelude.{ℕ, ℤ, ◌+◌, ◌-◌, ◌^◌, ◌==◌, List, ◌∷◌, ◌++◌, Option, Some, None, Result, Ok, Err, length, if◌then◌else◌, codes, decimal}
+use Rattle.std.specs.Prelude.{ℕ, ℤ, ◌+◌, ◌-◌, ◌^◌, ◌==◌, List, ◌∷◌, ◌++◌, Option, Some, None, Result, Ok, Err, length, if◌then◌else◌}
+use Rattle.std.specs.Option.{option_or}
 use Rattle.dk_store.specs.Told.{Told}
 use Rattle.dk_model.specs.declared.action.Action.{Action}
+use Rattle.dk_model.specs.declared.action.AddFile.{AddFile}
 use Rattle.dk_model.specs.declared.action.Protocol.{Protocol}
+use Rattle.dk_model.specs.declared.action.Metadata.{Metadata}
+use Rattle.dk_model.specs.declared.state.TableState.{TableState}
+use Rattle.dk_model.specs.Texts.{ByText}
 use Rattle.dk_model.specs.State.{empty_state}
 use Rattle.dk_model.specs.ReadBack.{own_info}
 use Rattle.dk_model.specs.Written.{own_info_line, text_of}
@@ -11,11 +16,13 @@ use Rattle.dk_engine.specs.declared.limits.Limits.{Limits}
 use Rattle.dk_engine.specs.declared.limits.Which.TheVariants as which
 use Rattle.dk_engine.specs.declared.refusal.Refusal.{Refusal}
 use Rattle.dk_engine.specs.declared.refusal.Refusal.TheVariants as refusals
+use Rattle.dk_features.specs.Support.{unwritten_name}
 use Rattle.dk_lawful.specs.Rules.{first_broken}
 use Rattle.dk_listing.specs.OfEvents.{latest}
 use Rattle.dk_snapshot.specs.declared.table.Snapshot.{Snapshot}
 use Rattle.dk_snapshot.specs.Opening.{opened, usual_choice}
 use Rattle.dk_snapshot.specs.Steps.{fits, if_fits}
+use Rattle.dk_snapshot.specs.Support.{unreadable}
 use Rattle.dk_txn.specs.declared.start.Start.{Start}
 
 -- ---- what a commit comes after
@@ -39,10 +46,13 @@ start events limits now = start_after events limits now (latest events)
 
 -- ---- whether it may come there
 
--- what the table asks of a writer beyond version 1, by its name
-abbrev pub unsupported : Option Protocol → Option (List ℕ)
-unsupported None = None
-unsupported (Some p) = if p.min_writer == 1 then None else Some (codes "minWriterVersion " ++ decimal p.min_writer)
+-- what of a table isn't supported, by its name: what isn't read, then what isn't written; a table that hasn't begun asks for nothing
+abbrev pub unsupported_of : Option Protocol → Option Metadata → ByText AddFile → Option (List ℕ)
+unsupported_of (Some p) (Some m) files = option_or (unreadable p files) (unwritten_name p m)
+unsupported_of protocol metadata files = None
+
+abbrev pub unsupported : TableState → Option (List ℕ)
+unsupported before = unsupported_of before.protocol before.metadata before.files
 
 -- support comes before the rules
 abbrev pub verdict : Option (List ℕ) → Option ℕ → Result (Unit {0}) Refusal
@@ -60,7 +70,7 @@ abbrev pub commit_text : ℕ → ℤ → List Action → List ℕ
 commit_text id now actions = own_info_line (id_text id) now ++ text_of actions
 
 abbrev pub allowed : Start → List Action → ℕ → Result (Unit {0}) Refusal
-allowed from actions id = verdict (unsupported from.before.protocol) (first_broken from.before from.version (own_commit id actions))
+allowed from actions id = verdict (unsupported from.before) (first_broken from.before from.version (own_commit id actions))
 
 -- a version, and the text of its commit
 abbrev pub Writing : Type 0

@@ -1,27 +1,29 @@
 -- The rules as they are tested, action by action.
-use Rattle.std.specs.Prelude.{ℕ, ◌==◌, ◌&&◌, ◌||◌, not, Bool, true, false, List, [], ◌∷◌}
-use Rattle.std.specs.Borrow.{Bor}
-use Rattle.std.specs.Ordering.{nat_cmp}
-use Rattle.std.specs.Cmp.Lexicographic.{slice_cmp}
-use Rattle.std.specs.BTreeSet.{BTreeSet, contains}
-use Rattle.std.specs.Str.{bytes_eq}
+use Rattle.std.specs.Prelude.{ℕ, Bool, true, false, List, [], ◌∷◌, Option, Some}
 use Rattle.dk_model.specs.declared.action.Action.{Action}
 use Rattle.dk_model.specs.declared.action.Action.TheVariants as action
+use Rattle.dk_model.specs.declared.action.Protocol.{Protocol}
+use Rattle.dk_model.specs.declared.action.Metadata.{Metadata}
+use Rattle.dk_lawful.specs.Rules.{file_path_in, application_in, domain_in}
+use Rattle.dk_txn.specs.declared.rules.Key.{Key}
+use Rattle.dk_txn.specs.declared.rules.Key.TheVariants as key
 
--- whether a set of paths has a path
-abbrev pub has_path : BTreeSet (Bor (List ℕ)) → List ℕ → Bool
-has_path paths path = contains (λ x y. slice_cmp nat_cmp x.now y.now) paths (record { ref_ptr = (0, 0); now = path })
+-- what an action has of a kind that no two actions may share
+abbrev pub key_in : Key → Action → Option (List ℕ)
+key_in key.Path a = file_path_in a
+key_in key.Application a = application_in a
+key_in key.Domain a = domain_in a
 
--- no path stands twice, and none is one of those seen before
-abbrev pub each_new : (List ℕ → Bool) → List (List ℕ) → Bool
-each_new seen [] = true
-each_new seen (path ∷ paths) = not (seen path) && each_new (λ other. bytes_eq path other || seen other) paths
+-- the last protocol and the last metadata, by those before
+abbrev pub last_protocol : Option Protocol → List Action → Option Protocol
+last_protocol before [] = before
+last_protocol before (action.Protocol p ∷ actions) = last_protocol (Some p) actions
+last_protocol before (_ ∷ actions) = last_protocol before actions
 
--- whether the last protocol has writer version 1, by what held before
-abbrev pub written_after : Bool → List Action → Bool
-written_after written [] = written
-written_after written (action.Protocol p ∷ actions) = written_after (p.min_writer == 1) actions
-written_after written (_ ∷ actions) = written_after written actions
+abbrev pub last_metadata : Option Metadata → List Action → Option Metadata
+last_metadata before [] = before
+last_metadata before (action.Metadata m ∷ actions) = last_metadata (Some m) actions
+last_metadata before (_ ∷ actions) = last_metadata before actions
 
 -- an action that may stand behind the line in which a commit speaks of itself
 abbrev pub stands_behind_own : Action → Bool

@@ -9,7 +9,9 @@ use crate::rules::first_broken;
 use crate::start::{Start, find_start};
 use crate::text::commit_text;
 use dk_engine::{JsonHandler, Limits, Refusal, Which};
-use dk_model::{Action, Protocol, Text};
+use dk_features::unwritten_name;
+use dk_model::{Action, TableState, Text};
+use dk_snapshot::unreadable;
 use dk_store::Store;
 use std::alloc::{AllocError, Global};
 
@@ -22,26 +24,27 @@ pub(crate) struct Writing {
     pub text: Vec<u8>,
 }
 
-/// What the table asks of a writer beyond version 1, by its name.
-fn unsupported(alloc: Global, protocol: &Option<Protocol>) -> Result<Option<Text>, AllocError>
-    ensures { IfOk result (λ name. name ≡ unsupported protocol.now) }
+/// What of the table isn't supported, by its name: what isn't read, then what isn't written. A table that hasn't begun
+/// asks for nothing.
+fn unsupported(alloc: Global, before: &TableState) -> Result<Option<Text>, AllocError>
+    ensures { IfOk result (λ name. name ≡ unsupported before.now) }
 {
-    match protocol {
-        Some(protocol) if protocol.min_writer != 1 => {
-            let version = protocol.min_writer;
-            Ok(Some(Text::new(format!(in alloc; "minWriterVersion {version}")?)))
-        }
+    match (&before.protocol, &before.metadata) {
+        (Some(protocol), Some(metadata)) => match unreadable(alloc, protocol, &before.files)? {
+            Some(name) => Ok(Some(name)),
+            None => unwritten_name(alloc, protocol, metadata),
+        },
         _ => Ok(None),
     }
 }
 
-/// Tests whether a commit may come there: that the table can be written, and then the rules.
+/// Tests whether a commit may come there: that the table is read and written, and then the rules.
 fn check(alloc: Global, from: &Start, actions: &[Action]) -> Result<(), Refusal>
     ensures means { (id : ℕ) → Gives (λ u. u) result (allowed from.now actions.now id) }
     ensures store { result ≡ Err Refusal.Store → ⊥ }
     ensures taken { (path : List ℕ) → result ≡ Err (Refusal.Taken path) → ⊥ }
 {
-    if let Some(name) = unsupported(alloc, &from.before.protocol)? {
+    if let Some(name) = unsupported(alloc, &from.before)? {
         return Err(Refusal::Unsupported { name });
     }
     match first_broken(alloc, &from.before, from.version, actions)? {

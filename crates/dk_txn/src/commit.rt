@@ -106,8 +106,8 @@ fn commit_once(
 /// `commits` says which event is added, and exactly when each refusal comes; `lawful` and `history` say the same in the
 /// subject's own words: the log stays lawful, and has this commit more, at the answered version. Beside faults of the
 /// store and want of memory these refusals add nothing, in this order: `Limit` of `Version` where no version can follow,
-/// those of opening the latest version, as [`dk_snapshot::open_at`] names them, `Unsupported` where the table asks for
-/// another writer version than 1, `Invalid` where a rule is broken, `Limit` of `Object` where the text is greater than
+/// those of opening the latest version, as [`dk_snapshot::open_at`] names them, `Unsupported` of the
+/// first version or feature that isn't written, `Invalid` where a rule is broken, `Limit` of `Object` where the text is greater than
 /// `limits.object` bytes, `Taken` where two other writers were there first.
 pub fn commit_now(
     alloc: Global,

@@ -1,13 +1,22 @@
-//! The rules of a commit that are kept so far.
-ghost use Rattle.std.specs.Prelude.{◌≡◌, ℕ, List, ◌∷◌, IfOk, length, option_map};
-ghost use Rattle.std.specs.List.{filter_map, list_all};
-ghost use Rattle.dk_txn.specs.Walks.{stands_behind_own};
+//! The rules of a commit.
+ghost use Rattle.std.specs.Prelude.{◌≡◌, ◌≢◌, ℕ, List, ◌∷◌, IfOk, length, option_map};
+ghost use Rattle.std.specs.List.{filter_map, list_all, list_any};
+ghost use Rattle.std.specs.Option.{option_copied};
+ghost use Rattle.dk_features.specs.Forms.{is_each_once};
+ghost use Rattle.dk_features.specs.InForce.{has_feature};
+ghost use Rattle.dk_features.specs.Names.{append_only, domain_metadata};
+ghost use Rattle.dk_txn.specs.Walks.{key_in, stands_behind_own};
 ghost use Rattle.dk_model.specs.ReadBack.{own_info};
-ghost use Rattle.dk_lawful.specs.Rules.{protocol_in, metadata_in, file_path_in, is_count_allowed, keeps_heads, keeps_kinds, keeps_paths_apart, has_first_form, is_not_lower, keeps_protocol, is_written, keeps_writer, is_plain_add, keeps_adds, first_broken};
+ghost use Rattle.dk_model.specs.State.{steps};
+ghost use Rattle.dk_lawful.specs.Rules.{protocol_in, metadata_in, is_count_allowed, keeps_heads, keeps_kinds, keeps_paths_apart, keeps_names_apart, is_not_lower, may_follow, is_protocol_kept, keeps_protocol, is_written, keeps_writer, is_set, is_append_only, removes_rows, keeps_rows, is_domain, keeps_domains, is_plain_add, keeps_adds, first_broken};
 
-use dk_model::{Action, Protocol, TableState, Text};
+use dk_features::{FeatureFault, can_write_with, has_form, is_in_force, keeps_features};
+use dk_model::{Action, Metadata, Protocol, TableState, Text};
 use std::alloc::{AllocError, Global};
 use std::collections::BTreeSet;
+
+/// The setting by which rows are only appended.
+const APPEND_ONLY_KEY: &str = "delta.appendOnly";
 
 fn count_protocols(actions: &[Action]) -> usize
     ensures { result ≡ length (filter_map protocol_in actions.now) }
@@ -74,24 +83,38 @@ fn keeps_kinds(actions: &[Action]) -> bool
     all_stand_behind_own(actions)
 }
 
-/// The path of a file action.
-fn file_path(action: &Action) -> Option<&Text>
-    ensures { option_map (λ path. path.now) result ≡ file_path_in action.now }
+/// What no two actions of a commit may share.
+#[derive(Clone, Copy)]
+pub(crate) enum Key {
+    /// The path of a file action.
+    Path,
+    /// The application of a txn.
+    Application,
+    /// The domain of a domainMetadata.
+    Domain,
+}
+
+/// What an action has of this kind.
+fn key_of(key: Key, action: &Action) -> Option<&Text>
+    ensures { option_map (λ text. text.now) result ≡ key_in key action.now }
 {
-    match action {
-        Action::Add(file) => Some(&file.path),
-        Action::Remove(file) => Some(&file.path),
+    match (key, action) {
+        (Key::Path, Action::Add(file)) => Some(&file.path),
+        (Key::Path, Action::Remove(file)) => Some(&file.path),
+        (Key::Application, Action::Txn(txn)) => Some(&txn.app_id),
+        (Key::Domain, Action::Domain(domain)) => Some(&domain.domain),
         _ => None,
     }
 }
 
-fn keeps_paths_apart(alloc: Global, actions: &[Action]) -> Result<bool, AllocError>
-    ensures { IfOk result (λ apart. apart ≡ keeps_paths_apart actions.now) }
+/// Whether no two actions have the same of this kind.
+fn are_apart(alloc: Global, key: Key, actions: &[Action]) -> Result<bool, AllocError>
+    ensures { IfOk result (λ apart. apart ≡ is_each_once (filter_map (key_in key) actions.now)) }
 {
     let mut seen: BTreeSet<&str> = BTreeSet::new(alloc);
     for action in actions {
-        if let Some(path) = file_path(action) {
-            if !seen.insert(path.as_str())? {
+        if let Some(text) = key_of(key, action) {
+            if !seen.insert(text.as_str())? {
                 return Ok(false);
             }
         }
@@ -99,58 +122,212 @@ fn keeps_paths_apart(alloc: Global, actions: &[Action]) -> Result<bool, AllocErr
     Ok(true)
 }
 
-fn is_not_lower(before: &Option<Protocol>, protocol: &Protocol) -> bool
+fn keeps_paths_apart(alloc: Global, actions: &[Action]) -> Result<bool, AllocError>
+    ensures { IfOk result (λ apart. apart ≡ keeps_paths_apart actions.now) }
+{
+    are_apart(alloc, Key::Path, actions)
+}
+
+fn keeps_names_apart(alloc: Global, actions: &[Action]) -> Result<bool, AllocError>
+    ensures { IfOk result (λ apart. apart ≡ keeps_names_apart actions.now) }
+{
+    Ok(are_apart(alloc, Key::Application, actions)? && are_apart(alloc, Key::Domain, actions)?)
+}
+
+fn is_not_lower(before: &Protocol, protocol: &Protocol) -> bool
     ensures { result ≡ is_not_lower before.now protocol.now }
 {
+    before.min_reader <= protocol.min_reader && before.min_writer <= protocol.min_writer
+}
+
+/// Whether a protocol may replace the one before it.
+fn may_follow(
+    alloc: Global,
+    before: &Option<Protocol>,
+    protocol: &Protocol,
+) -> Result<bool, AllocError>
+    ensures { IfOk result (λ may. may ≡ may_follow before.now protocol.now) }
+{
     match before {
-        None => true,
+        None => Ok(true),
         Some(before) => {
-            before.min_reader <= protocol.min_reader && before.min_writer <= protocol.min_writer
+            Ok(is_not_lower(before, protocol) && keeps_features(alloc, before, protocol)?)
         }
     }
 }
 
-fn has_first_form(before: &Option<Protocol>, protocol: &Protocol) -> bool
-    ensures { result ≡ has_first_form before.now protocol.now }
+fn is_protocol_kept(
+    alloc: Global,
+    before: &Option<Protocol>,
+    protocol: &Protocol,
+) -> Result<bool, AllocError>
+    ensures { IfOk result (λ kept. kept ≡ is_protocol_kept before.now protocol.now) }
 {
-    (protocol.min_reader == 1 || protocol.min_reader == 2)
-        && (1 <= protocol.min_writer && protocol.min_writer <= 6)
-        && (protocol.reader_features.is_none() && protocol.writer_features.is_none())
-        && is_not_lower(before, protocol)
+    Ok(has_form(alloc, protocol)? && may_follow(alloc, before, protocol)?)
 }
 
-fn keeps_protocol(before: &TableState, actions: &[Action]) -> bool
-    ensures { result ≡ keeps_protocol before.now actions.now }
+fn keeps_protocol(
+    alloc: Global,
+    before: &TableState,
+    actions: &[Action],
+) -> Result<bool, AllocError>
+    ensures { IfOk result (λ keeps. keeps ≡ keeps_protocol before.now actions.now) }
 {
     for action in actions {
         if let Action::Protocol(protocol) = action {
-            if !has_first_form(&before.protocol, protocol) {
-                return false;
+            if !is_protocol_kept(alloc, &before.protocol, protocol)? {
+                return Ok(false);
             }
         }
     }
-    true
+    Ok(true)
 }
 
-fn is_written(protocol: &Option<Protocol>) -> bool
-    ensures { result ≡ is_written protocol.now }
+/// The protocol after some actions.
+fn protocol_after<'a>(before: &'a TableState, actions: &'a [Action]) -> Option<&'a Protocol>
+    ensures { option_copied result ≡ (steps before.now actions.now).protocol }
+{
+    let mut after = before.protocol.as_ref();
+    for action in actions {
+        if let Action::Protocol(protocol) = action {
+            after = Some(protocol);
+        }
+    }
+    after
+}
+
+/// The metadata after some actions.
+fn metadata_after<'a>(before: &'a TableState, actions: &'a [Action]) -> Option<&'a Metadata>
+    ensures { option_copied result ≡ (steps before.now actions.now).metadata }
+{
+    let mut after = before.metadata.as_ref();
+    for action in actions {
+        if let Action::Metadata(metadata) = action {
+            after = Some(metadata);
+        }
+    }
+    after
+}
+
+/// Lets each fault but want of memory pass.
+fn pass_unsupported(fault: FeatureFault) -> Result<(), AllocError>
+    ensures { IfOk result (λ u. fault ≢ FeatureFault.OutOfMemory) }
+{
+    match fault {
+        FeatureFault::OutOfMemory => Err(AllocError),
+        _ => Ok(()),
+    }
+}
+
+/// Whether tables of this protocol and metadata are written.
+fn is_written(alloc: Global, protocol: &Protocol, metadata: &Metadata) -> Result<bool, AllocError>
+    ensures { IfOk result (λ written. written ≡ is_written (Some protocol.now) (Some metadata.now)) }
+{
+    match can_write_with(alloc, protocol, metadata) {
+        Ok(()) => Ok(true),
+        Err(fault) => {
+            pass_unsupported(fault)?;
+            Ok(false)
+        }
+    }
+}
+
+#[tactic(auto, unfolding(dk_lawful::specs::Rules::is_written))]
+fn keeps_writer(alloc: Global, before: &TableState, actions: &[Action]) -> Result<bool, AllocError>
+    ensures { IfOk result (λ keeps. keeps ≡ keeps_writer before.now actions.now) }
+{
+    match (
+        protocol_after(before, actions),
+        metadata_after(before, actions),
+    ) {
+        (Some(protocol), Some(metadata)) => is_written(alloc, protocol, metadata),
+        _ => Ok(false),
+    }
+}
+
+#[tactic(auto, unfolding(dk_features::specs::InForce::has_feature))]
+fn has_feature(protocol: Option<&Protocol>, name: &str) -> bool
+    ensures { result ≡ has_feature (option_copied protocol.entry) name.now }
 {
     match protocol {
         None => false,
-        Some(protocol) => protocol.min_writer == 1,
+        Some(protocol) => is_in_force(protocol, name),
     }
 }
 
-fn keeps_writer(before: &TableState, actions: &[Action]) -> bool
-    ensures { result ≡ keeps_writer before.now actions.now }
+/// Whether a setting stands and is set to `true`.
+fn is_set(text: Option<&Text>) -> bool
+    ensures { result ≡ is_set (option_copied text.entry) }
 {
-    let mut written = is_written(&before.protocol);
-    for action in actions {
-        if let Action::Protocol(protocol) = action {
-            written = protocol.min_writer == 1;
+    match text {
+        None => false,
+        Some(text) => text.as_str() == "true",
+    }
+}
+
+/// Whether rows are only appended.
+#[tactic(auto, unfolding(dk_lawful::specs::Rules::is_append_only))]
+fn is_append_only(protocol: Option<&Protocol>, metadata: Option<&Metadata>) -> bool
+    ensures { result ≡ is_append_only (option_copied protocol.entry) (option_copied metadata.entry) }
+{
+    match metadata {
+        None => false,
+        Some(metadata) => {
+            has_feature(protocol, "appendOnly") && is_set(metadata.setting(APPEND_ONLY_KEY))
         }
     }
-    written
+}
+
+fn removes_rows(action: &Action) -> bool
+    ensures { result ≡ removes_rows action.now }
+{
+    match action {
+        Action::Remove(file) => file.data_change,
+        _ => false,
+    }
+}
+
+fn remove_rows(actions: &[Action]) -> bool
+    ensures { result ≡ list_any removes_rows actions.now }
+{
+    for action in actions {
+        if removes_rows(action) {
+            return true;
+        }
+    }
+    false
+}
+
+fn keeps_rows(before: &TableState, actions: &[Action]) -> bool
+    ensures { result ≡ keeps_rows before.now actions.now }
+{
+    !(is_append_only(before.protocol.as_ref(), before.metadata.as_ref()) && remove_rows(actions))
+}
+
+fn is_domain(action: &Action) -> bool
+    ensures { result ≡ is_domain action.now }
+{
+    match action {
+        Action::Domain(_) => true,
+        _ => false,
+    }
+}
+
+fn have_domain(actions: &[Action]) -> bool
+    ensures { result ≡ list_any is_domain actions.now }
+{
+    for action in actions {
+        if is_domain(action) {
+            return true;
+        }
+    }
+    false
+}
+
+fn keeps_domains(before: &TableState, actions: &[Action]) -> bool
+    ensures { result ≡ keeps_domains before.now actions.now }
+{
+    !have_domain(actions) || has_feature(protocol_after(before, actions), "domainMetadata")
 }
 
 fn is_plain_add(action: &Action) -> bool
@@ -192,11 +369,20 @@ pub(crate) fn first_broken(
     if !keeps_paths_apart(alloc, actions)? {
         return Ok(Some(3));
     }
-    if !keeps_protocol(before, actions) {
+    if !keeps_names_apart(alloc, actions)? {
+        return Ok(Some(4));
+    }
+    if !keeps_protocol(alloc, before, actions)? {
         return Ok(Some(5));
     }
-    if !keeps_writer(before, actions) {
+    if !keeps_writer(alloc, before, actions)? {
         return Ok(Some(6));
+    }
+    if !keeps_rows(before, actions) {
+        return Ok(Some(7));
+    }
+    if !keeps_domains(before, actions) {
+        return Ok(Some(8));
     }
     if !keeps_adds(actions) {
         return Ok(Some(11));

@@ -7,13 +7,13 @@ use Rattle.dk_txn.proofs.attempt.check.Goals as goal
 pub returns-in-Some-2-clause-means : goal.returns-in-Some-2-clause-means
 returns-in-Some-2-clause-means c = λ id.
     let from = c.args.from.now in
-    let named : unsupported from.before.protocol ≡ None = search rules in
+    let named : unsupported from.before ≡ None = search rules in
     let broken : first_broken from.before from.version (own_commit id c.args.actions.now) ≡ Some c.in-Some-2.rule = sym (c.in_ok-rule.ensures (id_text id)) ∙ c.in-Some-2.is in
     ap₂ verdict named broken
 
 pub returns-in-None-clause-means : goal.returns-in-None-clause-means
 returns-in-None-clause-means c = λ id.
     let from = c.args.from.now in
-    let named : unsupported from.before.protocol ≡ None = search rules in
+    let named : unsupported from.before ≡ None = search rules in
     let broken : first_broken from.before from.version (own_commit id c.args.actions.now) ≡ None = sym (c.in_ok-rule.ensures (id_text id)) ∙ c.in-None.is in
     ap₂ verdict named broken
