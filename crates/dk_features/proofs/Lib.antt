@@ -1,2 +1,5 @@
+pub mod Gathered
 pub mod Places
+pub mod StayInForce
 pub mod Unused
+pub mod Unwritten

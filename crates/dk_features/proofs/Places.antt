@@ -1,6 +1,6 @@
 -- The walk along the features that the versions stand for.
-use Rattle.std.proofs.Common.{◌≡◌, ℕ, ◌+◌, ◌<◌, Bool, true, false, List, [], ◌∷◌, Some, cond, drop, get_or, length, option_map, ap, sym, ◌∙◌}
-use Rattle.std.specs.List.{position_from}
+use Rattle.std.proofs.Common.{◌≡◌, ℕ, ◌+◌, ◌<◌, Bool, true, false, ◌&&◌, List, [], Some, cond, drop, get_or, length, option_map, ap, sym, ◌∙◌}
+use Rattle.std.specs.List.{list_all, position_from}
 use Rattle.std.proofs.lemmas.List.{at_drop_more}
 use Rattle.dk_model.specs.declared.action.Protocol.{Protocol}
 use Rattle.dk_features.specs.declared.fault.FeatureList.TheVariants as lists
@@ -27,3 +27,10 @@ pub not_in_the_way : (uses : Bool) (p : Protocol) (place since : ℕ) (name : Li
 not_in_the_way uses p place since name lt is before way =
     ap (λ b. cond b (Some place) (position_from (is_in_the_way uses p) (place + 1) (drop (place + 1) implied))) (sym way)
     ∙ sym (one (is_in_the_way uses p) implied place (name, since) ([], 0) lt is) ∙ before
+
+-- a name that passes a test is passed
+pub passed_on : (test : List ℕ → Bool) (names : List (List ℕ)) (place : ℕ) (name : List ℕ) (all : Bool) → place < length names → name ≡ get_or names place [] → test name ≡ true
+    → list_all test (drop place names) ≡ all → list_all test (drop (place + 1) names) ≡ all
+passed_on test names place name all lt is passes before =
+    let here : test (get_or names place []) ≡ true = ap test (sym is) ∙ passes in
+    ap (λ b. b && list_all test (drop (place + 1) names)) (sym here) ∙ sym (at_drop_more (list_all test) names place [] lt) ∙ before

@@ -1,5 +1,5 @@
 -- Whether the schema has invariants doesn't matter where the feature isn't listed.
-use Rattle.std.proofs.Common.{◌≡◌, ℕ, ◌+◌, Bool, true, false, List, [], ◌∷◌, Option, Some, None, Result, subst, ◌||◌, arith, cond, get_or, rules, option_map, refl, ap, sym, ◌∙◌, true≢false}
+use Rattle.std.proofs.Common.{◌≡◌, ℕ, ◌+◌, Bool, true, false, List, [], ◌∷◌, Option, Some, None, Result, Ok, Err, subst, ◌||◌, arith, cond, get_or, rules, option_map, refl, ap, sym, ◌∙◌, true≢false}
 use Rattle.std.specs.List.{position_from}
 use Rattle.std.specs.Str.{bytes_eq}
 use Rattle.std.proofs.lemmas.Grind.{common_steps}
@@ -39,3 +39,19 @@ answers (Some (faults.ReaderVersion n)) result is = subst (λ r. Answers r (Some
 answers (Some (faults.WriterVersion n)) result is = subst (λ r. Answers r (Some (faults.WriterVersion n))) (sym is) refl
 answers (Some (faults.Feature list place)) result is = subst (λ r. Answers r (Some (faults.Feature list place))) (sym is) refl
 answers (Some faults.InvariantsUsed) result is = subst (λ r. Answers r (Some faults.InvariantsUsed)) (sym is) refl
+
+-- what an answer tells of what is in the way
+pub told_none : (meant : Option FeatureFault) (u : Unit {0}) → Ok u ≡ answer_of meant → meant ≡ None
+told_none None u is = refl
+told_none (Some fault) u is = absurd (let no : ◌≡◌ {A = Result (Unit {0}) FeatureFault} (Ok u) (Err fault) = is in cc)
+
+pub told_some : (meant : Option FeatureFault) (fault : FeatureFault) → Err fault ≡ answer_of meant → meant ≡ Some fault
+told_some None fault is = absurd (let no : ◌≡◌ {A = Result (Unit {0}) FeatureFault} (Err fault) (Ok tt) = is in cc)
+told_some (Some other) fault is = let same : fault ≡ other = cc in ap (λ (f : FeatureFault). Some f) (sym same)
+
+pub told_fault : (meant : Option FeatureFault) (fault : FeatureFault) → (fault ≡ faults.OutOfMemory → ⊥) → Answers (Err fault) meant → meant ≡ Some fault
+told_fault meant faults.OutOfMemory other is = absurd (other refl)
+told_fault meant (faults.ReaderVersion n) other is = is
+told_fault meant (faults.WriterVersion n) other is = is
+told_fault meant (faults.Feature list place) other is = is
+told_fault meant faults.InvariantsUsed other is = is

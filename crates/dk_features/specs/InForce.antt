@@ -32,3 +32,8 @@ is_implied_name p name = is_implied_found p (find (λ feature. bytes_eq name fea
 -- the feature is in force: listed for writers from version 7 on, or one that the versions stand for
 abbrev pub is_in_force : Protocol → List ℕ → Bool
 is_in_force p name = if nat_lt p.min_writer 7 then is_implied_name p name else (is_one_of (listed p.writer_features) name || is_mapped p name)
+
+-- of a table by its protocol, where it has one
+unfoldable pub has_feature : Option Protocol → List ℕ → Bool
+has_feature None name = false
+has_feature (Some p) name = is_in_force p name

@@ -25,14 +25,39 @@ column_mapping = codes "columnMapping"
 abbrev pub identity_columns : List ℕ
 identity_columns = codes "identityColumns"
 
+abbrev pub domain_metadata : List ℕ
+domain_metadata = codes "domainMetadata"
+
+abbrev pub timestamp_ntz : List ℕ
+timestamp_ntz = codes "timestampNtz"
+
+abbrev pub v2_checkpoint : List ℕ
+v2_checkpoint = codes "v2Checkpoint"
+
+abbrev pub vacuum_protocol_check : List ℕ
+vacuum_protocol_check = codes "vacuumProtocolCheck"
+
+abbrev pub type_widening : List ℕ
+type_widening = codes "typeWidening"
+
+abbrev pub catalog_managed : List ℕ
+catalog_managed = codes "catalogManaged"
+
+abbrev pub deletion_vectors : List ℕ
+deletion_vectors = codes "deletionVectors"
+
 -- a table with such a feature is read and written
 abbrev pub both : List (List ℕ)
-both = append_only ∷ codes "domainMetadata" ∷ codes "timestampNtz" ∷ codes "v2Checkpoint" ∷ codes "vacuumProtocolCheck" ∷ []
+both = append_only ∷ domain_metadata ∷ timestamp_ntz ∷ v2_checkpoint ∷ vacuum_protocol_check ∷ []
 
 -- a table with such a feature is read; it isn't written, but for one with invariants whose schema has none
 abbrev pub reading_alone : List (List ℕ)
 reading_alone = invariants ∷ check_constraints ∷ change_data_feed ∷ generated_columns ∷ column_mapping ∷ identity_columns ∷ codes "inCommitTimestamp"
-    ∷ codes "typeWidening" ∷ codes "rowTracking" ∷ codes "icebergCompatV1" ∷ codes "icebergCompatV2" ∷ codes "clustering" ∷ []
+    ∷ type_widening ∷ codes "rowTracking" ∷ codes "icebergCompatV1" ∷ codes "icebergCompatV2" ∷ codes "clustering" ∷ []
+
+-- the features that readers must know too; all others are asked of writers alone
+abbrev pub reader_and_writer : List (List ℕ)
+reader_and_writer = column_mapping ∷ deletion_vectors ∷ timestamp_ntz ∷ v2_checkpoint ∷ type_widening ∷ vacuum_protocol_check ∷ catalog_managed ∷ []
 
 abbrev pub is_one_of : List (List ℕ) → List ℕ → Bool
 is_one_of names name = list_any (bytes_eq name) names

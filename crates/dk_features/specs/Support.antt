@@ -90,3 +90,10 @@ fault_name p (faults.WriterVersion n) = codes "minWriterVersion " ++ decimal n
 fault_name p (faults.Feature list place) = get_or (names_of p list) place []
 fault_name p faults.InvariantsUsed = invariants
 fault_name p faults.OutOfMemory = []
+
+-- what is in the way of reading, and of writing, by its name
+unfoldable pub unread_name : Protocol → Option (List ℕ)
+unread_name p = option_map (fault_name p) (unread p)
+
+unfoldable pub unwritten_name : Protocol → Metadata → Option (List ℕ)
+unwritten_name p m = option_map (fault_name p) (unwritten p m)

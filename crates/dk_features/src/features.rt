@@ -1,6 +1,6 @@
 //! The features by their names.
 
-ghost use Rattle.std.specs.Prelude.{◌≡◌, ◌<◌, [], find, get_or, option_map};
+ghost use Rattle.std.specs.Prelude.{◌≡◌, ◌<◌, [], find, get_or, map, option_map};
 ghost use Rattle.std.specs.Str.{bytes_eq};
 ghost use Rattle.dk_features.specs.InForce.{implied, is_implied, is_implied_name, is_in_force, is_mapped, listed};
 ghost use Rattle.dk_features.specs.Names.{both, is_one_of, reading_alone};
@@ -79,6 +79,17 @@ pub(crate) fn is_reading_alone(name: &str) -> bool
     }
 }
 
+/// The name of such a feature; empty from place 7 on.
+pub(crate) fn implied_name(place: usize) -> &'static str
+    ensures { result.now ≡ get_or (map (λ feature. feature.0) implied) place [] }
+{
+    if place < IMPLIED_COUNT {
+        implied_at(place).0
+    } else {
+        ""
+    }
+}
+
 /// The names of a list; an absent one is empty.
 pub(crate) fn listed(names: &Option<Names>) -> &[Text]
     ensures { result.now ≡ listed names.now }
@@ -90,7 +101,7 @@ pub(crate) fn listed(names: &Option<Names>) -> &[Text]
 }
 
 /// Whether the reader version stands for this feature.
-fn is_mapped(protocol: &Protocol, name: &str) -> bool
+pub(crate) fn is_mapped(protocol: &Protocol, name: &str) -> bool
     ensures { result ≡ is_mapped protocol.now name.now }
 {
     protocol.min_reader == 2 && name == COLUMN_MAPPING
@@ -103,7 +114,7 @@ pub(crate) fn is_implied(protocol: &Protocol, name: &str, since: u32) -> bool
     since <= protocol.min_writer || is_mapped(protocol, name)
 }
 
-fn is_implied_name(protocol: &Protocol, name: &str) -> bool
+pub(crate) fn is_implied_name(protocol: &Protocol, name: &str) -> bool
     ensures { result ≡ is_implied_name protocol.now name.now }
 {
     match since(name) {

@@ -4,6 +4,7 @@
 
 mod fault;
 mod features;
+mod forms;
 mod naming;
 mod reading;
 mod schema;
@@ -13,5 +14,7 @@ mod writing;
 
 pub use fault::{FeatureFault, FeatureList};
 pub use features::is_in_force;
+pub use forms::{has_form, keeps_features};
+pub use naming::{unread_name, unwritten_name};
 pub use reading::can_read;
-pub use writing::can_write;
+pub use writing::{can_write, can_write_with};

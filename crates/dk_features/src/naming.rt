@@ -1,12 +1,13 @@
 //! What a fault is called.
 
-ghost use Rattle.std.specs.Prelude.{◌≡◌, [], IfOk, get_or, map};
-ghost use Rattle.dk_features.specs.InForce.{implied};
-ghost use Rattle.dk_features.specs.Support.{fault_name};
+ghost use Rattle.std.specs.Prelude.{◌≡◌, ◌≢◌, [], IfOk, get_or};
+ghost use Rattle.dk_features.specs.Support.{fault_name, unread_name, unwritten_name};
 
 use crate::fault::{FeatureFault, FeatureList};
-use crate::features::{IMPLIED_COUNT, INVARIANTS, implied_at, listed};
-use dk_model::{Protocol, Text};
+use crate::features::{INVARIANTS, implied_name, listed};
+use crate::reading::can_read;
+use crate::writing::can_write_with;
+use dk_model::{Metadata, Protocol, Text};
 use std::alloc::{AllocError, Global};
 
 /// The name at a place of a list; empty where there is none.
@@ -16,16 +17,6 @@ fn name_at(names: &[Text], place: usize) -> &str
     match names.get(place) {
         Some(name) => name.as_str(),
         None => "",
-    }
-}
-
-fn implied_name(place: usize) -> &'static str
-    ensures { result.now ≡ get_or (map (λ feature. feature.0) implied) place [] }
-{
-    if place < IMPLIED_COUNT {
-        implied_at(place).0
-    } else {
-        ""
     }
 }
 
@@ -53,5 +44,41 @@ impl FeatureFault {
             FeatureFault::InvariantsUsed => Text::from_str(alloc, INVARIANTS),
             FeatureFault::OutOfMemory => Text::from_str(alloc, ""),
         }
+    }
+}
+
+/// What is in the way of reading tables of this protocol, by its name as [`FeatureFault::name`] has it; None where they are read.
+pub fn unread_name(alloc: Global, protocol: &Protocol) -> Result<Option<Text>, AllocError>
+    ensures { IfOk result (λ name. name ≡ unread_name protocol.now) }
+{
+    match can_read(protocol) {
+        Ok(()) => Ok(None),
+        Err(fault) => Ok(Some(fault.name(alloc, protocol)?)),
+    }
+}
+
+/// The name of a fault that isn't want of memory.
+fn known_name(alloc: Global, fault: FeatureFault, protocol: &Protocol) -> Result<Text, AllocError>
+    ensures name { IfOk result (λ name. name ≡ fault_name protocol.now fault) }
+    ensures known { IfOk result (λ name. fault ≢ FeatureFault.OutOfMemory) }
+{
+    match fault {
+        FeatureFault::OutOfMemory => Err(AllocError),
+        known => known.name(alloc, protocol),
+    }
+}
+
+/// What is in the way of writing tables of this protocol and metadata, by its name as [`FeatureFault::name`] has it; None where
+/// they are written.
+pub fn unwritten_name(
+    alloc: Global,
+    protocol: &Protocol,
+    metadata: &Metadata,
+) -> Result<Option<Text>, AllocError>
+    ensures { IfOk result (λ name. name ≡ unwritten_name protocol.now metadata.now) }
+{
+    match can_write_with(alloc, protocol, metadata) {
+        Ok(()) => Ok(None),
+        Err(fault) => Ok(Some(known_name(alloc, fault, protocol)?)),
     }
 }

@@ -12,7 +12,7 @@ use crate::features::{
 };
 use crate::reading::can_read;
 use crate::schema::uses_invariants;
-use dk_model::{Protocol, TableState, Text};
+use dk_model::{Metadata, Protocol, TableState, Text};
 use std::alloc::Global;
 
 /// Whether a table with this feature is written, where its schema uses invariants or not.
@@ -83,6 +83,18 @@ fn test_version(alloc: Global, protocol: &Protocol, schema: &str) -> Result<(), 
     }
 }
 
+/// Whether tables of this protocol and metadata are written, as [`can_write`] has it of a state.
+pub fn can_write_with(
+    alloc: Global,
+    protocol: &Protocol,
+    metadata: &Metadata,
+) -> Result<(), FeatureFault>
+    ensures { Answers result (unwritten protocol.now metadata.now) }
+{
+    can_read(protocol)?;
+    test_version(alloc, protocol, metadata.schema_string.as_str())
+}
+
 /// Whether a table in this state, which has protocol and metadata, is written (Delta Lake's PROTOCOL.md, "Writer Requirements");
 /// where not, the first that is in the way: what is in the way of reading, then a version for writers
 /// above 7, then the first feature that isn't written, of the writers' list for version 7, of those that the versions
@@ -94,10 +106,7 @@ pub fn can_write(alloc: Global, state: &TableState) -> Result<(), FeatureFault>
     ensures { IfSome state.now.protocol (λ p. IfSome state.now.metadata (λ m. Answers result (unwritten p m))) }
 {
     match (&state.protocol, &state.metadata) {
-        (Some(protocol), Some(metadata)) => {
-            can_read(protocol)?;
-            test_version(alloc, protocol, metadata.schema_string.as_str())
-        }
+        (Some(protocol), Some(metadata)) => can_write_with(alloc, protocol, metadata),
         _ => unreachable!(),
     }
 }

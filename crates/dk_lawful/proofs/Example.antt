@@ -9,14 +9,14 @@ use Rattle.dk_paths.specs.Names.{commit_path}
 use Rattle.dk_paths.specs.Places.{Place, Commit_at, Classic, Part, V2, Staged, place_of, log_front, staged_front}
 use Rattle.dk_paths.proofs.PlaceLaws.{place_of_path}
 use Rattle.dk_lawful.specs.History.{By_file, By_catalogue, RatifiedCommit, by_file, by_catalogue, history, state_of, longer, after_made, staged_commit, next_version, table}
-use Rattle.dk_lawful.specs.Managed.{is_catalog_managed, is_managed}
+use Rattle.dk_lawful.specs.Managed.{is_managed}
 use Rattle.dk_lawful.specs.Rules.{first_broken}
 use Rattle.dk_lawful.specs.Permits.{Permits, MayMake, MayOver, MayDelete, AddsCommit}
 use Rattle.dk_lawful.specs.Present.{Holds, Complete}
 use Rattle.dk_store.specs.Standings.{standing}
 use Rattle.dk_lawful.specs.Lawful.{Lawful}
 use Rattle.dk_lawful.specs.Example.{first_text, first_actions, second_text, second_actions, listing_text, listing_actions, upgrading_text, upgrading_actions, shrinking_text, shrinking_actions, managed_text, managed_actions, staged_name_1, staging, ratifying, first_event, example, ExampleIsLawful, ExampleHistory, IsForbidden}
-use Rattle.dk_lawful.proofs.OnTexts.{commits_on_literals}
+use Rattle.dk_lawful.proofs.OnTexts.{commits_on_literals, rules_on_literals}
 use Rattle.dk_lawful.proofs.Standing.{commit_place, text_refl, found_made}
 use Rattle.dk_lawful.proofs.Structure.{longer_is}
 use Rattle.dk_lawful.proofs.SoundMade.{adds_itself}
@@ -35,7 +35,7 @@ unfolding commits_on_literals managed_text
 managed_means = refl
 
 is_managed_then : is_managed (state_of (by_file managed_actions ∷ [])) ≡ true
-unfolding is_catalog_managed
+unfolding rules_on_literals
 is_managed_then = refl
 
 -- a text that means nothing is no commit
@@ -44,6 +44,7 @@ none_is_none bytes actions none some = let no : ◌≡◌ {A = Option (List Acti
 
 -- the history after one object
 history_one : (bytes : List ℕ) (actions : List Action) → commit_of bytes ≡ Some actions → history (Made (commit_path 0) bytes (pos 0) ∷ []) ≡ by_file actions ∷ []
+unfolding rules_on_literals
 history_one bytes actions means =
     ap (λ (place : Place). after_made [] place bytes) (commit_place 0 (omega arith))
     ∙ longer_is [] By_file 0 (commit_of bytes) actions means refl refl
@@ -65,9 +66,11 @@ adds events h version bytes actions is next unmanaged valid means = (
 )
 
 first_adds : AddsCommit [] 0 first_text
+unfolding rules_on_literals
 first_adds = adds [] [] 0 first_text first_actions refl refl refl refl first_means
 
 second_adds : AddsCommit (first_event ∷ []) 1 second_text
+unfolding rules_on_literals
 second_adds = adds (first_event ∷ []) (by_file first_actions ∷ []) 1 second_text second_actions first_history refl refl refl second_means
 
 -- it may be made at its path on a lawful log
@@ -163,15 +166,19 @@ breaks rule bytes actions is means horizon may =
     broken example (by_file first_actions ∷ by_file second_actions ∷ []) 2 rule bytes actions example_history is means (may_add example horizon 2 bytes (pos 2) (omega arith) refl may)
 
 pub path_twice : IsForbidden example (Made (commit_path 2) (second_text ++ second_text) (pos 2))
+unfolding rules_on_literals
 path_twice = breaks 3 (second_text ++ second_text) (second_actions ++ second_actions) refl twice_means
 
 pub features : IsForbidden example (Made (commit_path 2) listing_text (pos 2))
+unfolding rules_on_literals
 features = breaks 5 listing_text listing_actions refl listing_means
 
 pub upgrade : IsForbidden example (Made (commit_path 2) upgrading_text (pos 2))
+unfolding rules_on_literals commits_on_literals
 upgrade = breaks 6 upgrading_text upgrading_actions refl upgrading_means
 
 pub size : IsForbidden example (Made (commit_path 2) shrinking_text (pos 2))
+unfolding rules_on_literals
 size = breaks 11 shrinking_text shrinking_actions refl shrinking_means
 
 pub managed : IsForbidden (Made (commit_path 0) managed_text (pos 0) ∷ []) (Made (commit_path 1) second_text (pos 1))

@@ -5,6 +5,7 @@ pub mod ContentLaws
 pub mod ContentsStand
 pub mod Example
 pub mod ForbiddenCheckpoints
+pub mod HeadRules
 pub mod Heads
 pub mod IdsOnce
 pub mod Joined
@@ -19,6 +20,7 @@ pub mod Puts
 pub mod ReadLog
 pub mod RowExample
 pub mod SegmentSteps
+pub mod SegmentsAgree
 pub mod Sound
 pub mod SoundDeleted
 pub mod SoundMade

@@ -19,7 +19,7 @@ use Rattle.dk_lawful.specs.Checkpoints.{IsTopOf}
 use Rattle.dk_lawful.specs.Lawful.{Lawful}
 use Rattle.dk_lawful.specs.Example.{first_text, first_actions, second_text, second_actions, first_event, example, IsForbidden}
 use Rattle.dk_lawful.specs.MoreExamples.{IsLawfulAfter, compacting, hinting, staged_event, dropping, side_name, cleaning, storing, forgetting}
-use Rattle.dk_lawful.proofs.OnTexts.{commits_on_literals}
+use Rattle.dk_lawful.proofs.OnTexts.{commits_on_literals, rules_on_literals}
 use Rattle.dk_lawful.proofs.Standing.{commit_place, object_none, found_made, made_here}
 use Rattle.dk_lawful.proofs.Example.{example_is_lawful, example_history, example_next, second_means, only_commits}
 use Rattle.dk_lawful.proofs.Stays.{none_beyond_last}
@@ -157,6 +157,7 @@ staged_below horizon may =
     omega arith
 
 pub unmanaged_ratified : IsForbidden (staged_event ∷ example) (Ratified 2 (staged_name 2 7))
+unfolding rules_on_literals
 unmanaged_ratified horizon may =
     let same : history (staged_event ∷ example) ≡ by_file first_actions ∷ by_file second_actions ∷ [] =
     ap (λ (place : Place). after_made (history example) place second_text) (place_of_path (Staged 2 7) staged_is_place) ∙ example_history in

@@ -1,17 +1,16 @@
 -- The actions of each object that is written of a checkpoint (Delta Lake's PROTOCOL.md, "Checkpoints", "V2 Spec", "Sidecar File
 -- Information"). Parts and sidecars are counted from 1. Tombstones are left out whose time isn't later than the cut.
-use Rattle.std.specs.Prelude.{ℕ, zero, suc, ℤ, Bool, false, ◌==◌, ◌&&◌, List, [], ◌∷◌, ◌++◌, Option, Some, None, map, filter, int_lt, if◌then◌else◌, codes}
-use Rattle.std.specs.List.{list_any}
+use Rattle.std.specs.Prelude.{ℕ, zero, suc, ℤ, Bool, false, List, [], ◌∷◌, ◌++◌, map, filter, int_lt, if◌then◌else◌}
 use Rattle.std.specs.Option.{option_to_list}
-use Rattle.std.specs.Str.{bytes_eq}
 use Rattle.std.specs.FinMap.{entries}
 use Rattle.dk_model.specs.declared.action.AddFile.{AddFile}
-use Rattle.dk_model.specs.declared.action.Protocol.{Protocol}
 use Rattle.dk_model.specs.declared.action.SidecarRef.{SidecarRef}
 use Rattle.dk_model.specs.declared.action.Action.{Action}
 use Rattle.dk_model.specs.declared.action.Action.TheVariants as action
 use Rattle.dk_model.specs.declared.state.Application.{Application}
 use Rattle.dk_model.specs.declared.state.TableState.{TableState}
+use Rattle.dk_features.specs.Names.{v2_checkpoint}
+use Rattle.dk_features.specs.InForce.{has_feature}
 use Rattle.dk_lawful.specs.Shares.{cut_of, files_of}
 
 -- ---- the actions of a state
@@ -53,20 +52,9 @@ all_with state cut files = heads state ++ (adds files ++ (removals state cut ++ 
 
 -- ---- the form V2
 
-unfoldable pub is_v2_name : List ℕ → Bool
-is_v2_name name = bytes_eq name (codes "v2Checkpoint")
-
-abbrev pub lists_v2 : Option (List (List ℕ)) → Bool
-lists_v2 None = false
-lists_v2 (Some features) = list_any is_v2_name features
-
-abbrev pub asks_for_v2 : Option Protocol → Bool
-asks_for_v2 None = false
-asks_for_v2 (Some protocol) = protocol.min_writer == 7 && lists_v2 protocol.writer_features
-
 -- the table has checkpoints of this form
 abbrev pub has_v2 : TableState → Bool
-has_v2 state = asks_for_v2 state.protocol
+has_v2 state = has_feature state.protocol v2_checkpoint
 
 abbrev pub mark : ℕ → Action
 mark version = action.CheckpointMeta (record { version = version })

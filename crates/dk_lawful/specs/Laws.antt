@@ -1,9 +1,11 @@
 -- The laws of the log, as statements. A list of events has the newest first, so what was before is its end.
 use Rattle.std.specs.Prelude.{◌≡◌, true, false, ℕ, ℤ, ◌+◌, ◌^◌, ◌<◌, ◌≤◌, ◌≤ℤ◌, ◌⊎◌, List, ◌∷◌, ◌++◌, Option, Some, None, Result, IfSome, IsSome, IsNone, length, option_and_then, slice_get}
 use Rattle.dk_model.specs.declared.action.Action.{Action}
+use Rattle.dk_model.specs.declared.action.Protocol.{Protocol}
 use Rattle.dk_model.specs.declared.state.TableState.{TableState}
 use Rattle.dk_model.specs.CommitText.{commit_of}
 use Rattle.dk_model.specs.State.{fold, steps}
+use Rattle.dk_features.specs.InForce.{has_feature}
 use Rattle.dk_store.specs.declared.event.Put.{Put}
 use Rattle.dk_store.specs.declared.event.StoreError.{StoreError}
 use Rattle.dk_store.specs.Told.{Told}
@@ -20,7 +22,7 @@ use Rattle.dk_lawful.specs.Lawful.{Lawful}
 use Rattle.dk_lawful.specs.Floor.{FromFloor, HasBetween}
 use Rattle.dk_lawful.specs.Checkpoints.{Names}
 use Rattle.dk_lawful.specs.Managed.{is_managed}
-use Rattle.dk_lawful.specs.Rules.{is_written, IsValidNext}
+use Rattle.dk_lawful.specs.Rules.{is_written, first_broken, IsValidNext}
 use Rattle.dk_lawful.specs.Kept.{IfBoth, KeepsLawful, HistoryAfterPut}
 
 -- what was before is lawful, so the log is lawful after each single event
@@ -180,6 +182,23 @@ abbrev pub TakenAddsNothing : Type 0
 TakenAddsNothing = (path bytes : List ℕ) (events : List Told) (new : Option (List Told)) (result : Result Put StoreError)
     → IsSome (object events path) → PutsNew path bytes (Some events) result new → new ≡ Some events
 
--- a table that writers of version 1 may write isn't managed
-abbrev pub WriterOneIsUnmanaged : Type 0
-WriterOneIsUnmanaged = (state : TableState) → is_written state.protocol ≡ true → is_managed state ≡ false
+-- a table that can be written isn't managed, and one of a writer version below 7 isn't either
+abbrev pub WrittenIsUnmanaged : Type 0
+WrittenIsUnmanaged = (state : TableState) → is_written state.protocol state.metadata ≡ true → is_managed state ≡ false
+
+abbrev pub LowWriterIsUnmanaged : Type 0
+LowWriterIsUnmanaged = (state : TableState) (protocol : Protocol) → state.protocol ≡ Some protocol → protocol.min_writer < 7 → is_managed state ≡ false
+
+-- neither is one that a commit by these rules comes after
+abbrev pub GoesOnUnmanaged : Type 0
+GoesOnUnmanaged = (before : TableState) (version : ℕ) (actions : List Action) → IsValidNext before version actions → is_managed before ≡ false
+
+-- a feature that is in force stays so
+abbrev pub FeaturesStay : Type 0
+FeaturesStay = (before : TableState) (version : ℕ) (actions : List Action) (name : List ℕ) → IsValidNext before version actions
+    → has_feature before.protocol name ≡ true → has_feature (steps before actions).protocol name ≡ true
+
+-- the rules look at no more of the state before than its protocol and its metadata
+abbrev pub RulesByHeads : Type 0
+RulesByHeads = (before other : TableState) (version : ℕ) (actions : List Action) → before.protocol ≡ other.protocol → before.metadata ≡ other.metadata
+    → first_broken before version actions ≡ first_broken other version actions

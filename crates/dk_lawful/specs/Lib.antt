@@ -22,4 +22,5 @@ pub mod Present
 pub mod RowExample
 pub mod Rules
 pub mod Segments
+pub mod SegmentLaws
 pub mod Shares

@@ -1,6 +1,6 @@
--- The rules of a commit that are kept so far, by their numbers, over the state before and the actions. Tables of writer version 1 alone
--- are written (Delta Lake's PROTOCOL.md, "Actions", "Protocol Evolution", "Requirements for Writers").
-use Rattle.std.specs.Prelude.{◌≡◌, ℕ, zero, suc, pos, Bool, true, false, not, ◌==◌, ◌&&◌, ◌||◌, nat_le, int_le, List, [], ◌∷◌, Option, Some, None, is_none, length, if◌then◌else◌}
+-- The rules of a commit by their numbers, over the state before and the actions (Delta Lake's PROTOCOL.md, "Actions", "Protocol
+-- Evolution", "Requirements for Writers"). Rules 9 and 10, of in-commit timestamps, are to come: until then such tables aren't written.
+use Rattle.std.specs.Prelude.{◌≡◌, ℕ, zero, suc, pos, Bool, true, false, not, ◌==◌, ◌&&◌, ◌||◌, nat_le, int_le, List, Option, Some, None, is_none, length, codes, if◌then◌else◌}
 use Rattle.std.specs.List.{list_any, list_all, filter_map}
 use Rattle.std.specs.Str.{bytes_eq}
 use Rattle.dk_model.specs.declared.action.Protocol.{Protocol}
@@ -10,6 +10,11 @@ use Rattle.dk_model.specs.declared.action.Action.{Action}
 use Rattle.dk_model.specs.declared.action.Action.TheVariants as action
 use Rattle.dk_model.specs.declared.state.TableState.{TableState}
 use Rattle.dk_model.specs.State.{steps}
+use Rattle.dk_model.specs.Settings.{setting}
+use Rattle.dk_features.specs.Names.{append_only, domain_metadata}
+use Rattle.dk_features.specs.InForce.{has_feature}
+use Rattle.dk_features.specs.Forms.{is_each_once, has_form, keeps_features}
+use Rattle.dk_features.specs.Support.{unwritten}
 
 -- the protocols and metadata of a commit, and the paths of its file actions
 abbrev pub protocol_in : Action → Option Protocol
@@ -48,33 +53,67 @@ abbrev pub keeps_kinds : List Action → Bool
 keeps_kinds actions = nat_le (length (filter_map info_in actions)) 1 && list_all may_be_committed actions
 
 -- rule 3: no path stands in two file actions
-abbrev pub is_each_once : List (List ℕ) → Bool
-is_each_once [] = true
-is_each_once (path ∷ paths) = not (list_any (bytes_eq path) paths) && is_each_once paths
-
 abbrev pub keeps_paths_apart : List Action → Bool
 keeps_paths_apart actions = is_each_once (filter_map file_path_in actions)
 
--- rule 5, its first form: reader 1 or 2, writer 1 to 6, no list, and neither version lower than before
-abbrev pub is_not_lower : Option Protocol → Protocol → Bool
-is_not_lower None p = true
-is_not_lower (Some before) p = nat_le before.min_reader p.min_reader && nat_le before.min_writer p.min_writer
+-- rule 4: no application stands in two txn actions, and no domain in two domainMetadata actions
+abbrev pub application_in : Action → Option (List ℕ)
+application_in (action.Txn t) = Some t.app_id
+application_in _ = None
 
-abbrev pub has_first_form : Option Protocol → Protocol → Bool
-has_first_form before p =
-    (p.min_reader == 1 || p.min_reader == 2) && (nat_le 1 p.min_writer && nat_le p.min_writer 6) && (is_none p.reader_features && is_none p.writer_features)
-    && is_not_lower before p
+abbrev pub domain_in : Action → Option (List ℕ)
+domain_in (action.Domain d) = Some d.domain
+domain_in _ = None
+
+abbrev pub keeps_names_apart : List Action → Bool
+keeps_names_apart actions = is_each_once (filter_map application_in actions) && is_each_once (filter_map domain_in actions)
+
+-- rule 5: a protocol has one of its forms; neither version is lower than before, and each feature in force before is in force after
+abbrev pub is_not_lower : Protocol → Protocol → Bool
+is_not_lower before p = nat_le before.min_reader p.min_reader && nat_le before.min_writer p.min_writer
+
+abbrev pub may_follow : Option Protocol → Protocol → Bool
+may_follow None p = true
+may_follow (Some before) p = is_not_lower before p && keeps_features before p
+
+abbrev pub is_protocol_kept : Option Protocol → Protocol → Bool
+is_protocol_kept before p = has_form p && may_follow before p
 
 abbrev pub keeps_protocol : TableState → List Action → Bool
-keeps_protocol before actions = list_all (has_first_form before.protocol) (filter_map protocol_in actions)
+keeps_protocol before actions = list_all (is_protocol_kept before.protocol) (filter_map protocol_in actions)
 
--- rule 6: the state after the commit has writer version 1
-abbrev pub is_written : Option Protocol → Bool
-is_written None = false
-is_written (Some p) = p.min_writer == 1
+-- rule 6: the state after the commit can be written
+unfoldable pub is_written : Option Protocol → Option Metadata → Bool
+is_written None metadata = false
+is_written (Some p) None = false
+is_written (Some p) (Some m) = is_none (unwritten p m)
 
 abbrev pub keeps_writer : TableState → List Action → Bool
-keeps_writer before actions = is_written (steps before actions).protocol
+keeps_writer before actions = is_written (steps before actions).protocol (steps before actions).metadata
+
+-- rule 7: no rows are removed from a table that was set to be appended to alone
+abbrev pub is_set : Option (List ℕ) → Bool
+is_set None = false
+is_set (Some text) = bytes_eq text (codes "true")
+
+unfoldable pub is_append_only : Option Protocol → Option Metadata → Bool
+is_append_only protocol None = false
+is_append_only protocol (Some m) = has_feature protocol append_only && is_set (setting (codes "delta.appendOnly") m)
+
+abbrev pub removes_rows : Action → Bool
+removes_rows (action.Remove r) = r.data_change
+removes_rows _ = false
+
+abbrev pub keeps_rows : TableState → List Action → Bool
+keeps_rows before actions = not (is_append_only before.protocol before.metadata && list_any removes_rows actions)
+
+-- rule 8: a domainMetadata needs its feature in force after the commit
+abbrev pub is_domain : Action → Bool
+is_domain (action.Domain d) = true
+is_domain _ = false
+
+abbrev pub keeps_domains : TableState → List Action → Bool
+keeps_domains before actions = not (list_any is_domain actions) || has_feature (steps before actions).protocol domain_metadata
 
 -- rule 11: each add has a size of at least 0 and no deletion vector
 abbrev pub is_plain_add : Action → Bool
@@ -90,8 +129,11 @@ first_broken before version actions =
     if not (keeps_heads version actions) then Some 1
     else if not (keeps_kinds actions) then Some 2
     else if not (keeps_paths_apart actions) then Some 3
+    else if not (keeps_names_apart actions) then Some 4
     else if not (keeps_protocol before actions) then Some 5
     else if not (keeps_writer before actions) then Some 6
+    else if not (keeps_rows before actions) then Some 7
+    else if not (keeps_domains before actions) then Some 8
     else if not (keeps_adds actions) then Some 11
     else None
 

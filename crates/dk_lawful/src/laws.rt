@@ -4,7 +4,7 @@ ghost use Rattle.std.specs.Prelude.{[], codes, pos, ◌++◌, ◌∷◌, ◌≡�
 ghost use Rattle.dk_lawful.specs.Calls.{DeleteKeepsLawful, ForgetKeepsLawful, PutNewKeepsLawful, PutOverKeepsLawful, RatifyKeepsLawful};
 ghost use Rattle.dk_lawful.specs.Example.{ExampleHistory, ExampleIsLawful, IsForbidden, example, first_text, listing_text, managed_actions, managed_text, ratifying, second_actions, second_text, shrinking_text, staging, upgrading_text};
 ghost use Rattle.dk_lawful.specs.History.{by_catalogue, by_file, history};
-ghost use Rattle.dk_lawful.specs.Laws.{CommitsStay, CompleteIsPublished, EachCameItsWay, FilesStay, FloorIsUpward, GreaterHorizonIsLawful, HistoryGrows, KeptFromFloor, LastIsAvailable, LastIsFromFloor, LastIsPublished, LastPublishedIsOne, LogShowsHistory, ManagementStays, NeededStays, NextIsFree, NextIsRatifiedNext, NoneBeyondLast, OneAtATime, PrefixesAreLawful, PublishedStays, PutAddsCommit, PutKeepsLawful, PutLeavesFloor, RatifiedIsManaged, RatifiedStays, ReadLogIsHistory, SidecarsStay, StagedCommitIsHistory, StandingCommitIsHistory, TableIsWhole, TakenAddsNothing, UnpublishedIsStaged, WholeLogIsOne, WriterOneIsUnmanaged};
+ghost use Rattle.dk_lawful.specs.Laws.{CommitsStay, CompleteIsPublished, EachCameItsWay, FeaturesStay, FilesStay, FloorIsUpward, GoesOnUnmanaged, GreaterHorizonIsLawful, HistoryGrows, KeptFromFloor, LastIsAvailable, LastIsFromFloor, LastIsPublished, LastPublishedIsOne, LogShowsHistory, LowWriterIsUnmanaged, ManagementStays, NeededStays, NextIsFree, NextIsRatifiedNext, NoneBeyondLast, OneAtATime, PrefixesAreLawful, PublishedStays, PutAddsCommit, PutKeepsLawful, PutLeavesFloor, RatifiedIsManaged, RatifiedStays, ReadLogIsHistory, RulesByHeads, SidecarsStay, StagedCommitIsHistory, StandingCommitIsHistory, TableIsWhole, TakenAddsNothing, UnpublishedIsStaged, WholeLogIsOne, WrittenIsUnmanaged};
 ghost use Rattle.dk_lawful.specs.MoreExamples.{IsLawfulAfter, cleaning, compacting, dropping, forgetting, hinting, staged_event, storing};
 ghost use Rattle.dk_paths.specs.Names.{commit_path};
 ghost use Rattle.dk_paths.specs.Places.{Compacted, Staged, place_path};
@@ -71,16 +71,24 @@ pub fn ratified_stays()
     ensures management { ManagementStays }
 {}
 
+/// What the rules of a commit look at, and that a feature in force stays so (Delta Lake's PROTOCOL.md, "Protocol Evolution").
+pub fn rules_of_a_commit()
+    ensures heads { RulesByHeads }
+    ensures features { FeaturesStay }
+{}
+
 /// One put of a commit's text at the path of the next version leaves a lawful log lawful, and adds exactly that
 /// commit to the history, or nothing, as the answer says. Where something stands at the path nothing is added, and
-/// at the path of the next version nothing stands. A table of writer version 1 goes on by such files (Delta Lake's
+/// at the path of the next version nothing stands. A table that can be written goes on by such files (Delta Lake's
 /// PROTOCOL.md, "Delta Log Entries", "Catalog-managed tables").
 pub fn next_commit_is_added()
     ensures lawful { PutKeepsLawful }
     ensures adds { PutAddsCommit }
     ensures floor { PutLeavesFloor }
     ensures free { NextIsFree }
-    ensures unmanaged { WriterOneIsUnmanaged }
+    ensures unmanaged { WrittenIsUnmanaged }
+    ensures low { LowWriterIsUnmanaged }
+    ensures goes_on { GoesOnUnmanaged }
     ensures taken { TakenAddsNothing }
 {}
 

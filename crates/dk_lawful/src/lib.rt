@@ -7,6 +7,7 @@ mod checkpoint_laws;
 mod id_laws;
 mod laws;
 mod segment;
+mod segment_laws;
 
 pub use actor_laws::others_stay_fit;
 pub use checkpoint_laws::{
@@ -20,3 +21,4 @@ pub use laws::{
     permitted_one_by_one, ratified_stays,
 };
 pub use segment::{CheckpointRef, Checkpoints, Choice, Segment, Step, StepList};
+pub use segment_laws::segments_agree;

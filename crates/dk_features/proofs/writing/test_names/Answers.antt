@@ -1,4 +1,4 @@
-use Rattle.std.proofs.Common.{◌≡◌, false, ap, sym, ◌∙◌}
+use Rattle.std.proofs.Common.{false, ap, sym, ◌∙◌}
 use Rattle.dk_features.specs.Invariants.{uses_invariants}
 use Rattle.dk_features.specs.Support.{answer_of, unwritten_listed}
 use Rattle.dk_features.proofs.Unused.{unused, answers}
