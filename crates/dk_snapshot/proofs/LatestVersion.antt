@@ -22,7 +22,7 @@ use Rattle.dk_snapshot.specs.LatestVersion.{is_of, names_of, lists_complete, is_
 
 -- ---- the greatest number that passes a test
 
-abbrev pub IsGreatest : (ℕ → Bool) → Option ℕ → Type 0
+abbrev IsGreatest : (ℕ → Bool) → Option ℕ → Type 0
 IsGreatest test None = (v : ℕ) → test v ≡ false
 IsGreatest test (Some n) = (test n ≡ true) × ((v : ℕ) → test v ≡ true → v ≤ n)
 
@@ -89,7 +89,7 @@ newest_from version f best (x ∷ xs) is =
     (λ v. or_assoc (f v) (is_of (version x) v) (list_any (λ x. is_of (version x) v) xs)) (fold (λ best x. later best (version x)) (later best (version x)) xs)
     (newest_from version (λ v. f v || is_of (version x) v) (later best (version x)) xs (later_greatest f (is_of (version x)) best (version x) is (one_greatest (version x))))
 
-pub newest_greatest : {X : Type 0} (version : X → Option ℕ) (xs : List X) → IsGreatest (λ v. list_any (λ x. is_of (version x) v) xs) (fold (λ best x. later best (version x)) None xs)
+newest_greatest : {X : Type 0} (version : X → Option ℕ) (xs : List X) → IsGreatest (λ v. list_any (λ x. is_of (version x) v) xs) (fold (λ best x. later best (version x)) None xs)
 newest_greatest version xs = newest_from version (λ v. false) None xs (λ v. refl)
 
 -- ---- commits and ratifications
