@@ -65,7 +65,7 @@ unless_cut metadata None (Some kept) now cut is cuts = (kept, is, ok_same cuts)
     ok_same : ◌≡◌ {A = Result ℤ Refusal} (Ok (cut_before now kept)) (Ok cut) → cut ≡ cut_before now kept
     ok_same e = cc
 
-state_cut : (oldest : List ℕ) (state : TableState) (now cut : ℤ) → cut_of oldest state now ≡ Ok cut → HasCut state.metadata now cut
+pub state_cut : (oldest : List ℕ) (state : TableState) (now cut : ℤ) → cut_of oldest state now ≡ Ok cut → HasCut state.metadata now cut
 state_cut oldest state now cut cuts = by state.protocol state.metadata cuts
   where
     by : (protocol : Option Protocol) (metadata : Option Metadata) → cut_with oldest protocol metadata state.files now ≡ Ok cut → HasCut metadata now cut
@@ -77,14 +77,14 @@ state_cut oldest state now cut cuts = by state.protocol state.metadata cuts
 -- ---- a version of the history that is kept
 
 -- the answer is exactly the state of the history's commits, or one of the two refusals
-record IsExactly (events : List Told) (limits : Limits) (now : ℤ) (version : ℕ) (segment : Segment) (snapshot : Snapshot) : Type 0 where
-  is_version : snapshot.version ≡ version
-  is_segment : snapshot.segment ≡ segment
-  state : snapshot.state ≡ table_at events version
-  within : AreWithinLimit events limits.object segment.steps
-  cut : cut_of (oldest_path segment.steps) (table_at events version) now ≡ Ok snapshot.cut
+pub record IsExactly (events : List Told) (limits : Limits) (now : ℤ) (version : ℕ) (segment : Segment) (snapshot : Snapshot) : Type 0 where
+  pub is_version : snapshot.version ≡ version
+  pub is_segment : snapshot.segment ≡ segment
+  pub state : snapshot.state ≡ table_at events version
+  pub within : AreWithinLimit events limits.object segment.steps
+  pub cut : cut_of (oldest_path segment.steps) (table_at events version) now ≡ Ok snapshot.cut
 
-abbrev Exactly : List Told → Limits → ℤ → ℕ → Segment → Result Snapshot Refusal → Type 0
+abbrev pub Exactly : List Told → Limits → ℤ → ℕ → Segment → Result Snapshot Refusal → Type 0
 Exactly events limits now version segment (Ok snapshot) = IsExactly events limits now version segment snapshot
 Exactly events limits now version segment (Err (Limit Object size)) = IsNewestOver events limits.object segment.steps size
 Exactly events limits now version segment (Err (Unsupported name)) =
@@ -171,7 +171,7 @@ module _ (events : List Told) (horizon : ℤ) (lawful : Lawful events horizon) (
   asks_within None version asks = omega arith
   asks_within (Some asked) version asks = asks.1
 
-  opened_exactly : (at : Option ℕ) (version : ℕ) → AsksVersion events at version → IsKeptBy events version choice → Exactly events limits now version (segment_by events version choice) (opened events limits at choice now)
+  pub opened_exactly : (at : Option ℕ) (version : ℕ) → AsksVersion events at version → IsKeptBy events version choice → Exactly events limits now version (segment_by events version choice) (opened events limits at choice now)
   opened_exactly at version asks kept =
       subst (λ (asked : Result ℕ Refusal). Exactly events limits now version (segment_by events version choice) (opened_asked events limits choice now asked)) (sym (asked_is at version asks))
       (version_exactly version (asks_within at version asks) kept)

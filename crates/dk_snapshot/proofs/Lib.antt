@@ -13,3 +13,4 @@ pub mod LastVersion
 pub mod LawfulReads
 pub mod LawfulOpens
 pub mod Undeleted
+pub mod EachAnswer

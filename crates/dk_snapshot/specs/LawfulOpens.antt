@@ -122,3 +122,23 @@ AboveIsNoVersion = (events : List Told) (horizon : ℤ) (limits : Limits) (choic
 abbrev pub EmptyIsMissing : Type 0
 EmptyIsMissing = (events : List Told) (horizon : ℤ) (limits : Limits) (at : Option ℕ) (choice : Choice) (now : ℤ) → Lawful events horizon → next_version events ≡ 0
     → opened events limits at choice now ≡ Err (Missing (commit_path 0))
+
+-- ---- each answer
+
+-- Each answer has its cause in the history: a version is the asked one and is kept; an object of such a version is over the limit, or its table
+-- asks for what isn't read; of a version that isn't kept the first missing commit is named, and of no history the first one; nothing else comes.
+abbrev pub AnswersHistory : List Told → Limits → Option ℕ → Choice → ℤ → Result Snapshot Refusal → Type 0
+AnswersHistory events limits at choice now (Ok snapshot) =
+    AsksVersion events at snapshot.version × IsKeptBy events snapshot.version choice × (snapshot.state ≡ table_at events snapshot.version) × HasCut snapshot.state.metadata now snapshot.cut
+AnswersHistory events limits at choice now (Err (Limit Object size)) =
+    (version : ℕ) × AsksVersion events at version × IsKeptBy events version choice × IsNewestOver events limits.object (segment_by events version choice).steps size
+AnswersHistory events limits at choice now (Err (Unsupported name)) =
+    (version : ℕ) × AsksVersion events at version × IsKeptBy events version choice × AreWithinLimit events limits.object (segment_by events version choice).steps
+    × (cut_of (oldest_path (segment_by events version choice).steps) (table_at events version) now ≡ Err (Unsupported name))
+AnswersHistory events limits at choice now (Err (Missing path)) =
+    ((version : ℕ) × AsksVersion events at version × (first_gap (stands_at events) (standing events) version choice ≡ Some path)) ⊎ ((next_version events ≡ 0) × (path ≡ commit_path 0))
+AnswersHistory events limits at choice now (Err (NoVersion last)) = (asked : ℕ) × (at ≡ Some asked) × (last + 1 ≡ next_version events) × (last < asked)
+AnswersHistory events limits at choice now (Err _) = ⊥
+
+abbrev pub EachAnswer : Type 0
+EachAnswer = (events : List Told) (horizon : ℤ) (limits : Limits) (at : Option ℕ) (choice : Choice) (now : ℤ) → Lawful events horizon → AnswersHistory events limits at choice now (opened events limits at choice now)

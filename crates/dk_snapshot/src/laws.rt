@@ -1,6 +1,6 @@
 //! Laws of what a version is, over the events of a store. None of these functions does anything when it runs.
 ghost use Rattle.dk_snapshot.specs.KeptVersions.{NotKeptIsMissing, OpenedIsKept};
-ghost use Rattle.dk_snapshot.specs.LawfulOpens.{AboveIsNoVersion, EmptyIsMissing, GapIsMissing, KeptIsAnswered, LatestIsLast, OpenedHasCut, OpenedIsAsked, OpenedIsTable, UndeletedIsKept};
+ghost use Rattle.dk_snapshot.specs.LawfulOpens.{AboveIsNoVersion, EachAnswer, EmptyIsMissing, GapIsMissing, KeptIsAnswered, LatestIsLast, OpenedHasCut, OpenedIsAsked, OpenedIsTable, UndeletedIsKept};
 ghost use Rattle.dk_snapshot.specs.LatestVersion.{LatestIsGreatest, ListedIsGreatest};
 
 /// The latest version of a store's events, and so of a listing of them, is the greatest one that is published, stands
@@ -23,8 +23,8 @@ pub fn opened_is_kept()
 /// time that the table keeps removed files. A version of the history that is kept opens, unless one of its objects is
 /// over the limit or the table asks for what isn't read; so it is never `Missing`, `NoVersion` or `Damaged`. As long as no
 /// deletion has taken what a version needs, each one is kept. One that isn't kept is `Missing` of its first missing commit,
-/// and one above the last is `NoVersion` (Delta Lake's PROTOCOL.md, "Delta Log Entries", "Action Reconciliation",
-/// "Catalog-managed tables").
+/// and one above the last is `NoVersion`. Nothing else is answered (Delta Lake's PROTOCOL.md, "Delta Log Entries", "Action
+/// Reconciliation", "Catalog-managed tables").
 pub fn lawful_opens()
     ensures latest { LatestIsLast }
 
@@ -41,4 +41,7 @@ pub fn lawful_opens()
     // no version of it
     ensures above { AboveIsNoVersion }
     ensures empty { EmptyIsMissing }
+
+    // each answer and its cause
+    ensures each { EachAnswer }
 {}

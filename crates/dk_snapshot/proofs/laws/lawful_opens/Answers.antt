@@ -1,4 +1,5 @@
 -- The laws are lemmas.
+use Rattle.dk_snapshot.proofs.EachAnswer as answers
 use Rattle.dk_snapshot.proofs.LastVersion as last
 use Rattle.dk_snapshot.proofs.LawfulOpens as lemmas
 use Rattle.dk_snapshot.proofs.Undeleted as undeleted
@@ -30,3 +31,6 @@ returns-clause-above c = lemmas.above_is_no_version
 
 pub returns-clause-empty : goal.returns-clause-empty
 returns-clause-empty c = lemmas.empty_is_missing
+
+pub returns-clause-each : goal.returns-clause-each
+returns-clause-each c = answers.each_answer
