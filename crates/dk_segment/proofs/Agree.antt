@@ -1,5 +1,5 @@
 -- Two tests of places, and two maps of standing names, that agree where a version needs them give it one segment.
-use Rattle.std.proofs.Common.{◌≡◌, ℕ, suc, zero, ◌+◌, ◌<◌, ◌≤◌, ◌^◌, Bool, List, refl, ap, ap₂, subst, ◌∙◌, arith, if◌then◌else◌, inl, inr}
+use Rattle.std.proofs.Common.{◌≡◌, ℕ, suc, zero, ◌+◌, ◌<◌, ◌≤◌, ◌^◌, Bool, List, [], refl, ap, ap₂, subst, ◌∙◌, arith, if◌then◌else◌, inl, inr}
 use Rattle.std.specs.Prelude.{Option, Some, None, option_map, option_and_then, is_some, Result, Ok, Err}
 use Rattle.std.proofs.lemmas.Bool.Decides.{eqb_tells}
 use Rattle.dk_store.specs.Told.{Told}
@@ -29,7 +29,7 @@ segment_with (Ok steps) = Ok (record { base = None; steps = steps })
 segment_with (Err refusal) = Err refusal
 
 pub chosen_walked : (present : Place → Bool) (ratified : ℕ → Option (List ℕ)) (version : ℕ) (choice : Choice)
-    → segment_with (walked (commit_place present ratified choice.staged_first) (version + 1)) ≡ chosen present ratified version choice
+    → segment_with (walked (commit_place present ratified choice.staged_first) 0 (version + 1)) ≡ chosen present ratified version choice
 chosen_walked present ratified version choice = by (gap_from (commit_place present ratified choice.staged_first) 0 (version + 1))
   where
     steps : List Step
@@ -54,11 +54,11 @@ known_place known listing knows staged_first version = ap₂ (preferred staged_f
         ap₂ (λ (there : ℕ → Bool) (name : Option (List ℕ)). option_and_then (λ id. if there id then Some (Staged version id) else None) (option_and_then (id_named version) name)) same (knows.ratified version)
 
 -- what is walked by what is known of a listing is walked by the listing
-pub known_walk : (known : Known) (listing : Catalogued) → Knows known listing → (staged_first : Bool) (count : ℕ)
-    → walked (commit_place (has_place known) (has_name known) staged_first) count ≡ walked (commit_place (lists listing) (ratified_name listing) staged_first) count
-known_walk known listing knows staged_first count =
+pub known_walk : (known : Known) (listing : Catalogued) → Knows known listing → (staged_first : Bool) (first count : ℕ)
+    → walked (commit_place (has_place known) (has_name known) staged_first) first count ≡ walked (commit_place (lists listing) (ratified_name listing) staged_first) first count
+known_walk known listing knows staged_first first count =
     let same : commit_place (has_place known) (has_name known) staged_first ≡ commit_place (lists listing) (ratified_name listing) staged_first = λ i version. known_place known listing knows staged_first version i in
-    ap (λ (place_at : ℕ → Option Place). walked place_at count) same
+    ap (λ (place_at : ℕ → Option Place). walked place_at first count) same
 
 -- ---- two views of one log
 
@@ -120,3 +120,21 @@ chosen_standing events listing is version small choice =
       staged = λ id allowed. lists_staged_commit events listing is v id allowed;
       name = names_standing events listing is v;
     })
+
+-- what is walked by a listing of events is walked by what stands
+pub walked_standing : (events : List Told) (listing : Catalogued) → IsListingOf events listing → (staged_first : Bool) (first count : ℕ) → first + count ≤ 2 ^ 63
+    → walked (commit_place (lists listing) (ratified_name listing) staged_first) first count ≡ walked (commit_place (stands_at events) (standing events) staged_first) first count
+walked_standing events listing is staged_first first count small =
+    let one : ℕ → Option Place = commit_place (lists listing) (ratified_name listing) staged_first in
+    let two : ℕ → Option Place = commit_place (stands_at events) (standing events) staged_first in
+    let same : (w : ℕ) → w < first + count → one w ≡ two w = λ w lt. place_alike (lists listing) (stands_at events) (ratified_name listing) (standing events) staged_first w (record {
+      commit = lists_commit events listing is w (omega arith);
+      staged = λ id allowed. lists_staged_commit events listing is w id allowed;
+      name = names_standing events listing is w;
+    }) in
+    ap₂ unless_absent (steps_alike one two first count same) (gap_alike one two first count same)
+
+-- of no versions nothing is missing
+pub walked_none : (place_at : ℕ → Option Place) (first : ℕ) → walked place_at first 0 ≡ Ok []
+unfolding steps_from gap_from
+walked_none place_at first = refl

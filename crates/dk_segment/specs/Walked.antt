@@ -18,6 +18,6 @@ abbrev pub unless_absent : List Step → Option ℕ → Result (List Step) Refus
 unless_absent steps None = Ok steps
 unless_absent steps (Some version) = Err (Missing (commit_path version))
 
--- the steps of the first versions, or the first of them whose commit isn't there
-abbrev pub walked : (ℕ → Option Place) → ℕ → Result (List Step) Refusal
-walked place_at count = unless_absent (steps_from place_at 0 count) (gap_from place_at 0 count)
+-- the steps of so many versions, from one on, or the first of them whose commit isn't there
+abbrev pub walked : (ℕ → Option Place) → ℕ → ℕ → Result (List Step) Refusal
+walked place_at first count = unless_absent (steps_from place_at first count) (gap_from place_at first count)

@@ -1,13 +1,15 @@
 //! The choice of a segment.
-ghost use Rattle.std.specs.Prelude.{◌≡◌, ◌<◌, ◌^◌, Err};
+ghost use Rattle.std.specs.Prelude.{◌≡◌, ◌<◌, ◌≤◌, ◌+◌, ◌^◌, Err, false};
 ghost use Rattle.dk_engine.specs.Answers.{Gives};
 ghost use Rattle.dk_listing.specs.Presence.{lists, ratified_name};
+ghost use Rattle.dk_lawful.specs.Segments.{commit_place};
 ghost use Rattle.dk_segment.specs.Chosen.{chosen};
+ghost use Rattle.dk_segment.specs.Walked.{walked};
 
 use crate::known::know;
 use crate::walk::walk;
 use dk_engine::Refusal;
-use dk_lawful::{Choice, Segment, StepList};
+use dk_lawful::{Choice, Segment, Step, StepList};
 use dk_listing::Catalogued;
 use std::alloc::Global;
 
@@ -28,11 +30,27 @@ pub fn choose(
     ensures store { result ≡ Err Refusal.Store → ⊥ }
 {
     let known = know(alloc, listing)?;
-    match walk(alloc, &known, version + 1, choice.staged_first) {
+    match walk(alloc, &known, 0, version + 1, choice.staged_first) {
         Ok(steps) => Ok(Segment {
             base: None,
             steps: StepList::new(steps),
         }),
         Err(refusal) => Err(refusal),
     }
+}
+
+/// From where the commits of so many versions are read, from `first` on, each by itself: the published commit where it is
+/// listed, else the staged one where that stands ratified and is listed. `Missing` of the first version with neither.
+pub fn find_commits(
+    alloc: Global,
+    listing: &Catalogued,
+    first: u64,
+    count: u64,
+) -> Result<Vec<Step>, Refusal>
+    requires { first + count ≤ 2 ^ 63 }
+    ensures means { Gives (λ steps. steps.items) result (walked (commit_place (lists listing.now) (ratified_name listing.now) false) first count) }
+    ensures store { result ≡ Err Refusal.Store → ⊥ }
+{
+    let known = know(alloc, listing)?;
+    walk(alloc, &known, first, count, false)
 }

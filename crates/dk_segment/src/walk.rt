@@ -1,5 +1,5 @@
 //! The walk over the versions, one by one.
-ghost use Rattle.std.specs.Prelude.{◌≡◌, ◌<◌, ◌≤◌, ◌^◌, Err, IfOk, string_bytes};
+ghost use Rattle.std.specs.Prelude.{◌≡◌, ◌<◌, ◌≤◌, ◌+◌, ◌^◌, Err, IfOk, string_bytes};
 ghost use Rattle.dk_paths.specs.Names.{commit_path};
 ghost use Rattle.dk_paths.specs.Places.{place_path};
 ghost use Rattle.dk_lawful.specs.declared.segment.Step.TheVariants as steps;
@@ -44,19 +44,20 @@ fn missing(alloc: Global, version: u64) -> Result<Refusal, AllocError>
     })
 }
 
-/// The steps of so many versions, from version 0 on, or the first whose commit isn't there.
+/// The steps of so many versions, from `first` on, or the first whose commit isn't there.
 pub(crate) fn walk(
     alloc: Global,
     known: &Known<'_>,
+    first: u64,
     count: u64,
     staged_first: bool,
 ) -> Result<Vec<Step>, Refusal>
-    requires { count ≤ 2 ^ 63 }
-    ensures means { Gives (λ found. found.items) result (walked (commit_place (has_place known.now) (has_name known.now) staged_first) count) }
+    requires { first + count ≤ 2 ^ 63 }
+    ensures means { Gives (λ found. found.items) result (walked (commit_place (has_place known.now) (has_name known.now) staged_first) first count) }
     ensures store { result ≡ Err Refusal.Store → ⊥ }
 {
     let mut found = Vec::new(alloc);
-    for version in 0..count {
+    for version in first..first + count {
         match find_source(known, version, staged_first) {
             Some(source) => found.push(step_of(alloc, version, source)?)?,
             None => return Err(missing(alloc, version)?),

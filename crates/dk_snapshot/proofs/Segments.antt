@@ -15,7 +15,7 @@ use Rattle.dk_model.specs.State.{empty_state, steps}
 use Rattle.dk_lawful.specs.declared.segment.Choice.{Choice}
 use Rattle.dk_lawful.specs.declared.segment.Segment.{Segment}
 use Rattle.dk_lawful.specs.declared.segment.Step.{Step}
-use Rattle.dk_lawful.specs.Segments.{if_present, id_of, id_named, published_at, staged_at, preferred, commit_place, before_later, steps_from, segment_of, first_gap}
+use Rattle.dk_lawful.specs.Segments.{if_present, id_of, id_named, published_at, staged_at, preferred, commit_place, before_later, steps_from, gap_from, segment_of, first_gap}
 use Rattle.dk_engine.specs.declared.limits.Limits.{Limits}
 use Rattle.dk_engine.specs.declared.refusal.Refusal.{Refusal}
 use Rattle.dk_engine.specs.declared.refusal.Refusal.TheVariants as refusals
@@ -26,6 +26,7 @@ use Rattle.dk_listing.specs.OfEvents.{IsListingOf}
 use Rattle.dk_listing.specs.Sizes.{listed_size, stored_size}
 use Rattle.dk_listing.proofs.Sized.{commit_size, staged_size}
 use Rattle.dk_segment.specs.Chosen.{chosen, unless_gap}
+use Rattle.dk_segment.specs.Walked.{walked, unless_absent}
 use Rattle.dk_snapshot.specs.declared.table.Snapshot.{Snapshot}
 use Rattle.dk_snapshot.specs.Catalogue.{Surveys}
 use Rattle.dk_snapshot.specs.Effects.{changes_read}
@@ -78,14 +79,20 @@ module _ (P : List ℕ → Type 0) where
       by None here later = tt
       by (Some place) here later = (here, later)
 
+  -- of each version that is walked, the place at which it is read
+  pub walked_hold : (present : Place → Bool) (ratified : ℕ → Option (List ℕ)) (staged_first : Bool) (first count : ℕ)
+      → ((v : ℕ) → P (place_path (Commit_at v))) → ((v id : ℕ) → IsStaged v id → P (place_path (Staged v id)))
+      → All (λ (step : Step). P (step_path step)) (steps_from (commit_place present ratified staged_first) first count)
+  walked_hold present ratified staged_first first count published staged =
+      let place_at : ℕ → Option Place = commit_place present ratified staged_first in
+      let each : (v : ℕ) → Holds (place_at v) = λ v.
+      preferred_holds staged_first (staged_at present ratified v) (published_at present v) (named_holds present v (staged v) (ratified v)) (present_holds (present (Commit_at v)) (Commit_at v) (published v)) in
+      All-from_recursion (λ (step : Step). P (step_path step)) (steps_from place_at first count) (steps_hold place_at each first count)
+
   chosen_hold : (present : Place → Bool) (ratified : ℕ → Option (List ℕ)) (version : ℕ) (choice : Choice)
       → ((v : ℕ) → P (place_path (Commit_at v))) → ((v id : ℕ) → IsStaged v id → P (place_path (Staged v id)))
       → All (λ (step : Step). P (step_path step)) (segment_of present ratified version choice).steps
-  chosen_hold present ratified version choice published staged =
-      let place_at : ℕ → Option Place = commit_place present ratified choice.staged_first in
-      let each : (v : ℕ) → Holds (place_at v) = λ v.
-      preferred_holds choice.staged_first (staged_at present ratified v) (published_at present v) (named_holds present v (staged v) (ratified v)) (present_holds (present (Commit_at v)) (Commit_at v) (published v)) in
-      All-from_recursion (λ (step : Step). P (step_path step)) (steps_from place_at 0 (version + 1)) (steps_hold place_at each 0 (version + 1))
+  chosen_hold present ratified version choice published staged = walked_hold present ratified choice.staged_first 0 (version + 1) published staged
 
 is_segment : (whole segment : Segment) (gap : Option (List ℕ)) → unless_gap whole gap ≡ Ok segment → whole ≡ segment
 is_segment whole segment None is = cc
@@ -105,6 +112,22 @@ segment_sized events listing is present ratified version choice segment chooses 
     subst (λ (s : Segment). map size s.steps ≡ map stands s.steps) same
     (map_same size stands (segment_of present ratified version choice).steps
     (chosen_hold (λ path. listed_size listing path ≡ stored_size events path) present ratified version choice (commit_size events listing is) (staged_size events listing is)))
+
+is_walked : (whole steps : List Step) (gap : Option ℕ) → unless_absent whole gap ≡ Ok steps → whole ≡ steps
+is_walked whole steps None is = cc
+is_walked whole steps (Some version) is = cc
+
+-- and so are those of steps that were walked
+pub walked_sized : (events : List Told) (listing : Catalogued) → IsListingOf events listing → (present : Place → Bool) (ratified : ℕ → Option (List ℕ)) (staged_first : Bool) (first count : ℕ) (steps : List Step)
+    → walked (commit_place present ratified staged_first) first count ≡ Ok steps → AreSized events steps (map (λ (step : Step). listed_size listing (step_path step)) steps)
+walked_sized events listing is present ratified staged_first first count steps walks =
+    let place_at : ℕ → Option Place = commit_place present ratified staged_first in
+    let same : steps_from place_at first count ≡ steps = is_walked (steps_from place_at first count) steps (gap_from place_at first count) walks in
+    let size : Step → Option ℕ = λ step. listed_size listing (step_path step) in
+    let stands : Step → Option ℕ = λ step. stored_size events (step_path step) in
+    subst (λ (s : List Step). map size s ≡ map stands s) same
+    (map_same size stands (steps_from place_at first count)
+    (walked_hold (λ path. listed_size listing path ≡ stored_size events path) present ratified staged_first first count (commit_size events listing is) (staged_size events listing is)))
 
 -- ---- the steps to a version, over what a store may tell
 

@@ -44,7 +44,7 @@ pub record AreRead (events : List Told) (limit : ℕ) (steps : List Step) (place
   pub are_of : changes ≡ changes_of newer
 
 -- the size of the step at a place
-size_of_step : (events : List Told) (steps : List Step) (sizes : List (Option ℕ)) (place : ℕ) (step : Step) → place < length steps → step ≡ get_or steps place step → AreSized events steps sizes
+pub size_of_step : (events : List Told) (steps : List Step) (sizes : List (Option ℕ)) (place : ℕ) (step : Step) → place < length steps → step ≡ get_or steps place step → AreSized events steps sizes
     → option_and_then (λ (size : Option ℕ). size) (slice_get sizes place) ≡ stored_size events (step_path step)
 size_of_step events steps sizes place step less is sized =
     let size : Step → Option ℕ = λ s. stored_size events (step_path s) in

@@ -108,8 +108,8 @@ fn known_sizes<'a>(
     Ok(found)
 }
 
-/// The size of each step's object, as the listing shows it.
-pub(crate) fn step_sizes<'a>(
+/// The size of each step's object in bytes, as the listing shows it, in the order of the steps.
+pub fn step_sizes<'a>(
     alloc: Global,
     listing: &'a Catalogued,
     steps: &'a [Step],

@@ -28,8 +28,9 @@ pub(crate) fn step_path(step: &Step) -> &str
     }
 }
 
-/// The path of the oldest object of a segment.
-pub(crate) fn oldest_path(steps: &[Step]) -> &str
+/// The path of the oldest object of a segment, by its steps in ascending order of versions; without steps that of the first
+/// commit.
+pub fn oldest_path(steps: &[Step]) -> &str
     ensures { result.now ≡ oldest_path steps.now }
 {
     match steps.first() {
@@ -149,8 +150,10 @@ fn read_within(
     }
 }
 
-/// Reads the commit of a step, whose listed size is this.
-fn read_step(
+/// Reads the commit of a step, whose listed size in bytes is this, once. Beside faults of the store and want of memory it is
+/// refused, in this order: `Limit` of `Object` where the size is over the limit, `Missing` where the object is absent,
+/// `Damaged` where it means nothing, with its first bad line.
+pub fn read_step(
     alloc: Global,
     store: &mut dyn Store,
     json: &mut dyn JsonHandler,

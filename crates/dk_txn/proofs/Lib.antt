@@ -1,6 +1,9 @@
+pub mod Concluding
 pub mod Next
 pub mod NotAbove
 pub mod ReadHistory
+pub mod ReadWinners
+pub mod Preparing
 pub mod Readable
 pub mod RuleWalks
 pub mod Starts

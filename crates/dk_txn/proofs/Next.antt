@@ -39,7 +39,7 @@ no_commits : (h : List RatifiedCommit) → length h ≡ 0 → empty_state ≡ st
 no_commits [] none = refl
 no_commits (c ∷ h) none = absurd (omega (arith, none))
 
-free_above : (events : List Told) (last : Option ℕ) (version : ℕ) → latest events ≡ last → version < 2 ^ 63 → (AtMost version last → ⊥) → IsNone (object events (commit_path version))
+pub free_above : (events : List Told) (last : Option ℕ) (version : ℕ) → latest events ≡ last → version < 2 ^ 63 → (AtMost version last → ⊥) → IsNone (object events (commit_path version))
 free_above events last version top small above = by (stands events version) refl
   where
     by : (there : Bool) → stands events version ≡ there → IsNone (object events (commit_path version))
@@ -99,7 +99,7 @@ pub record Next (events : List Told) (actions : List Action) (id : ℕ) (writing
   pub free : IsNone (object events (commit_path writing.0))
   pub comes : ComesNext writing.0 (own_commit id actions) events
 
-within_is : (fit : Result (Unit {0}) Refusal) (meant writing : Writing) → if_fits fit (Ok meant) ≡ Ok writing → meant ≡ writing
+pub within_is : (fit : Result (Unit {0}) Refusal) (meant writing : Writing) → if_fits fit (Ok meant) ≡ Ok writing → meant ≡ writing
 within_is (Ok u) meant writing is = cc
 within_is (Err refusal) meant writing is = cc
 

@@ -1,3 +1,5 @@
 pub mod Attempt
 pub mod Commits
 pub mod Walks
+pub mod Winners
+pub mod Transactions

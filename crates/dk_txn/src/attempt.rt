@@ -39,7 +39,7 @@ fn unsupported(alloc: Global, before: &TableState) -> Result<Option<Text>, Alloc
 }
 
 /// Tests whether a commit may come there: that the table is read and written, and then the rules.
-fn check(alloc: Global, from: &Start, actions: &[Action]) -> Result<(), Refusal>
+pub(crate) fn check(alloc: Global, from: &Start, actions: &[Action]) -> Result<(), Refusal>
     ensures means { (id : ℕ) → Gives (λ u. u) result (allowed from.now actions.now id) }
     ensures store { result ≡ Err Refusal.Store → ⊥ }
     ensures taken { (path : List ℕ) → result ≡ Err (Refusal.Taken path) → ⊥ }
@@ -54,7 +54,7 @@ fn check(alloc: Global, from: &Start, actions: &[Action]) -> Result<(), Refusal>
 }
 
 /// A text to write, unless it is greater than an object may be, in bytes.
-fn within(limit: u64, version: u64, text: Vec<u8>) -> Result<Writing, Refusal>
+pub(crate) fn within(limit: u64, version: u64, text: Vec<u8>) -> Result<Writing, Refusal>
     ensures means { Gives (λ w. (w.version, w.text.items)) result (if_within limit (version, text.items)) }
     ensures version { IfOk result (λ w. w.version ≡ version) }
     ensures text { IfOk result (λ w. w.text.items ≡ text.items) }

@@ -38,7 +38,7 @@ fn put(store: &mut dyn Store, path: &str, bytes: &[u8], now: i64) -> Result<Put,
 }
 
 /// Writes the commit where nothing stands.
-fn write(
+pub(crate) fn write(
     alloc: Global,
     store: &mut dyn Store,
     writing: &Writing,

@@ -1,12 +1,19 @@
-//! One commit, checked: it comes after the newest version of the table, keeps the rules, and is put where nothing stands.
+//! One commit, checked: it comes after the newest version of the table, keeps the rules, and is put where nothing stands. A
+//! [`Transaction`] may be committed again after a lost answer, and is tested against the commits that came in between.
 #![tactic(auto)]
 
 mod attempt;
 mod commit;
+mod prepared;
 mod rules;
 mod start;
 #[cfg(test)]
 mod tests;
 mod text;
+#[cfg(test)]
+mod transacting;
+mod transaction;
+mod winners;
 
 pub use commit::{Committed, commit_now};
+pub use transaction::Transaction;

@@ -24,7 +24,7 @@ fn spelled_id(id: u128, buffer: &mut [u8]) -> &str
 }
 
 /// The id in lower case with hyphens.
-fn txn_id(alloc: Global, id: u128) -> Result<String, AllocError>
+pub(crate) fn txn_id(alloc: Global, id: u128) -> Result<String, AllocError>
     ensures { IfOk result (λ text. string_bytes text ≡ id_text id) }
 {
     let mut buffer = Uuid::encode_buffer();

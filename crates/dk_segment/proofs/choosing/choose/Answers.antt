@@ -15,8 +15,8 @@ pub returns-in-Ok-clause-means : goal.returns-in-Ok-clause-means
 returns-in-Ok-clause-means c =
     let listing = c.args.listing.now in
     let choice = c.args.choice.now in
-    let walked_by : walked (commit_place (lists listing) (ratified_name listing) choice.staged_first) (c.args.version + 1) ≡ Ok c.in-Ok.steps.items =
-    sym (known_walk c.in_ok-known.known listing c.in_ok-known.ensures choice.staged_first (c.args.version + 1)) ∙ c.in-Ok.ensures.means in
+    let walked_by : walked (commit_place (lists listing) (ratified_name listing) choice.staged_first) 0 (c.args.version + 1) ≡ Ok c.in-Ok.steps.items =
+    sym (known_walk c.in_ok-known.known listing c.in_ok-known.ensures choice.staged_first 0 (c.args.version + 1)) ∙ c.in-Ok.ensures.means in
     sym (chosen_walked (lists listing) (ratified_name listing) c.args.version choice)
     ∙ ap segment_with walked_by
     ∙ ap (λ (steps : List Step). Ok (record { base = None; steps = steps })) (sym c.new.ensures)
@@ -25,7 +25,7 @@ pub returns-clause-means : goal.returns-clause-means
 returns-clause-means c =
     let listing = c.args.listing.now in
     let choice = c.args.choice.now in
-    let same : walked (commit_place (lists listing) (ratified_name listing) choice.staged_first) (c.args.version + 1) ≡ walked _ (c.args.version + 1) =
-    sym (known_walk c.in_ok-known.known listing c.in_ok-known.ensures choice.staged_first (c.args.version + 1)) in
+    let same : walked (commit_place (lists listing) (ratified_name listing) choice.staged_first) 0 (c.args.version + 1) ≡ walked _ 0 (c.args.version + 1) =
+    sym (known_walk c.in_ok-known.known listing c.in_ok-known.ensures choice.staged_first 0 (c.args.version + 1)) in
     subst (λ (meant : Result Segment Refusal). Refuses c.in-Err.refusal meant) (ap segment_with (sym same) ∙ chosen_walked (lists listing) (ratified_name listing) c.args.version choice)
     (refused_by_part segment_with (λ r. refl) c.in-Err.refusal _ c.in-Err.ensures.means)

@@ -1,0 +1,251 @@
+-- What a commit of a transaction comes to, by its parts, over a store that may tell its events.
+use Rattle.std.proofs.Common.{◌≡◌, ℕ, ℤ, ◌-◌, Bool, true, false, List, ◌∷◌, nat_lt, refl, ap, ap₂, sym, subst, ◌∙◌, arith, if◌then◌else◌}
+use Rattle.std.specs.Prelude.{Option, Some, None, Result, Ok, Err, IfSome}
+use Rattle.std.specs.List.{AllByRecursion}
+use Rattle.dk_store.specs.Told.{Told}
+use Rattle.dk_model.specs.declared.action.Action.{Action}
+use Rattle.dk_model.specs.declared.kind.Kind.{Kind}
+use Rattle.dk_model.specs.declared.state.TableState.{TableState}
+use Rattle.dk_model.specs.CommitText.{commit_of}
+use Rattle.dk_model.specs.ReadBack.{IsReadable, own_info, written_of}
+use Rattle.dk_paths.specs.Numbers.{id_text}
+use Rattle.dk_conflicts.specs.declared.reads.Reads.{Reads}
+use Rattle.dk_engine.specs.declared.limits.Limits.{Limits}
+use Rattle.dk_engine.specs.declared.limits.Which.TheVariants as which
+use Rattle.dk_engine.specs.declared.refusal.Refusal.{Refusal}
+use Rattle.dk_engine.specs.declared.refusal.Refusal.TheVariants as refusals
+use Rattle.dk_engine.specs.Answers.{Refuses, Gives}
+use Rattle.dk_engine.proofs.Refused.{refused_by_part, gives_same}
+use Rattle.dk_lawful.specs.declared.segment.Step.{Step}
+use Rattle.dk_listing.specs.declared.catalogued.Catalogued.{Catalogued}
+use Rattle.dk_listing.specs.Latest.{latest_of}
+use Rattle.dk_listing.specs.OfEvents.{IsListingOf}
+use Rattle.dk_listing.proofs.LatestOf.{latest_standing}
+use Rattle.dk_segment.proofs.Agree.{walked_none}
+use Rattle.dk_snapshot.specs.Catalogue.{Surveys}
+use Rattle.dk_snapshot.specs.Steps.{AreSized}
+use Rattle.dk_txn.specs.declared.start.Start.{Start}
+use Rattle.dk_txn.specs.declared.transaction.Transaction.{Transaction}
+use Rattle.dk_txn.specs.declared.winners.Winners.{Winners}
+use Rattle.dk_txn.specs.declared.winners.Found.{Found}
+use Rattle.dk_txn.specs.declared.winners.Found.TheVariants as founds
+use Rattle.dk_txn.proofs.Written.{allowed_reads}
+use Rattle.dk_txn.specs.Attempt.{last_version, own_commit, commit_text, allowed, Writing, if_allowed, if_within}
+use Rattle.dk_txn.specs.Winners.{Since, Own, Others, gone, or_gone, since_steps, since_sources, sources, commit_at, AreWinners}
+use Rattle.dk_txn.specs.Transactions.{Reached, At_own, After, come_to, headed, oldest_of, unless_conflict, and_also, rules_keep, may_come, reached, writing_at, Outcome, Stands, Writes, to_write, outcome_after, reached_by, reached_at, outcome_at, next_after, outcome}
+
+-- ---- a winner that is missing is gone
+
+pub gone_store : (refusal : Refusal) → gone refusal ≡ refusals.Store → refusal ≡ refusals.Store
+gone_store (refusals.Missing path) is = absurd (let no : refusals.WinnersGone path ≡ refusals.Store = is in cc)
+gone_store refusal is = is
+
+pub gone_taken : (refusal : Refusal) (path : List ℕ) → gone refusal ≡ refusals.Taken path → refusal ≡ refusals.Taken path
+gone_taken (refusals.Missing other) path is = absurd (let no : refusals.WinnersGone other ≡ refusals.Taken path = is in cc)
+gone_taken refusal path is = is
+
+-- what refuses a part, gone where it is missing, refuses what is made of it
+pub gone_by_part : {X Y : Type 0} (whole : Result X Refusal → Result Y Refusal) → ((r : Refusal) → whole (Err r) ≡ Err (gone r))
+    → (refusal : Refusal) (part : Result X Refusal) → Refuses refusal part → Refuses (gone refusal) (whole part)
+gone_by_part whole hands refusals.Store part means = tt
+gone_by_part whole hands refusals.OutOfMemory part means = tt
+gone_by_part whole hands (refusals.Taken path) part means = absurd means
+gone_by_part whole hands refusal part means = ap whole means ∙ hands _
+
+-- what was read of the winners, as what came since
+module _ (limits : Limits) (t : Transaction) (state : TableState) (found : List Step) (sizes : List (Option ℕ)) (own : List Action) (id : List ℕ) (own_is : own ≡ t.actions.items) (id_is : id ≡ id_text t.id) where
+  abbrev read : List Told → Result Reached Refusal
+  read events = come_to t.reads own t.from.version state None (since_steps events limits.object id t.from.version found)
+
+  read_is : (events : List Told) → or_gone (read events) ≡ reached_by events limits t state found
+  read_is events = ap₂ (λ (o : List Action) (i : List ℕ). or_gone (come_to t.reads o t.from.version state None (since_steps events limits.object i t.from.version found))) own_is id_is
+
+  pub reach_refused : (told : Option (List Told)) (refusal result : Refusal) → result ≡ gone refusal → IfSome told (λ events. AreSized events found sizes → Refuses refusal (read events))
+      → IfSome told (λ events. AreSized events found sizes → Refuses result (reached_by events limits t state found))
+  reach_refused None refusal result is means = tt
+  reach_refused (Some events) refusal result is means = λ sized.
+      subst (λ (r : Refusal). Refuses r (reached_by events limits t state found)) (sym is)
+      (subst (λ (m : Result Reached Refusal). Refuses (gone refusal) m) (read_is events) (gone_by_part or_gone (λ r. refl) refusal (read events) (means sized)))
+
+  pub reach_found : (told : Option (List Told)) (what : Reached) → IfSome told (λ events. AreSized events found sizes → read events ≡ Ok what)
+      → IfSome told (λ events. AreSized events found sizes → reached_by events limits t state found ≡ Ok what)
+  reach_found None what means = tt
+  reach_found (Some events) what means = λ sized. sym (read_is events) ∙ ap or_gone (means sized)
+
+-- ---- what came since, by the sources of the winners
+
+come_gone : (reads : Reads) (own : List Action) (version : ℕ) (state : TableState) (first : Option (ℕ × Kind)) (meant : Result Since Refusal)
+    → come_to reads own version state first (or_gone meant) ≡ or_gone (come_to reads own version state first meant)
+come_gone reads own version state first (Ok (Own at)) = refl
+come_gone reads own version state first (Ok (Others winners)) = refl
+come_gone reads own version state first (Err refusal) = refl
+
+module _ (events : List Told) (limits : Limits) (t : Transaction) where
+  -- by what the winners are read from
+  abbrev reached_from : Result (List Step) Refusal → Result Reached Refusal
+  reached_from found = come_to t.reads t.actions.items t.from.version t.from.before None (or_gone (since_sources events limits.object (id_text t.id) t.from.version found))
+
+  by_steps : (next : ℕ) (found : List Step) → sources events t.from.version (next - t.from.version) ≡ Ok found → reached_by events limits t t.from.before found ≡ reached_at events limits t next
+  by_steps next found is =
+      sym (come_gone t.reads t.actions.items t.from.version t.from.before None (since_steps events limits.object (id_text t.id) t.from.version found))
+      ∙ ap reached_from (sym is)
+
+  -- no version came since
+  none_reached : (next : ℕ) → t.from.version ≡ next → reached_at events limits t next ≡ Ok (After t.from.before None)
+  none_reached next same =
+      let none : next - t.from.version ≡ 0 = omega (arith, same) in
+      ap reached_from (ap (λ (n : ℕ). sources events t.from.version n) none ∙ walked_none (commit_at events) t.from.version)
+
+-- with no winners it comes where it began
+pub none_next : {X : Type 0} (view : X → Outcome) (told : Option (List Told)) (listing : Catalogued) (limits : Limits) (t : Transaction) (now passed : ℤ) (next : ℕ) (result : Result X Refusal) → passed ≡ now → t.from.version ≡ next
+    → Gives view result (to_write (writing_at t limits passed t.from None))
+    → IfSome told (λ events. IsListingOf events listing → Gives view result (outcome_after t limits now next (reached_at events limits t next)))
+none_next view None listing limits t now passed next result moment same means = tt
+none_next view (Some events) listing limits t now passed next result moment same means = λ is.
+    gives_same view result (to_write (writing_at t limits passed t.from None)) (outcome_after t limits now next (reached_at events limits t next))
+    (ap₂ (λ (n : ℤ) (v : ℕ). to_write (writing_at t limits n (record { version = v; before = t.from.before }) None)) moment same
+    ∙ ap (outcome_after t limits now next) (sym (none_reached events limits t next same))) means
+
+-- the winners that are found, and what follows them
+pub winners_next : {X : Type 0} (view : X → Outcome) (told : Option (List Told)) (listing : Catalogued) (limits : Limits) (t : Transaction) (now passed : ℤ) (next : ℕ) (winners : Winners) (result : Result X Refusal) → passed ≡ now
+    → ((events : List Told) → IsListingOf events listing → AreWinners events t.from.version (next - t.from.version) (Ok winners))
+    → IfSome told (λ events. AreSized events winners.steps.items winners.sizes.items → Gives view result (outcome_after t limits passed next (reached_by events limits t t.from.before winners.steps.items)))
+    → IfSome told (λ events. IsListingOf events listing → Gives view result (outcome_after t limits now next (reached_at events limits t next)))
+winners_next view None listing limits t now passed next winners result moment found means = tt
+winners_next view (Some events) listing limits t now passed next winners result moment found means = λ is.
+    let are = found events is in
+    gives_same view result (outcome_after t limits passed next (reached_by events limits t t.from.before winners.steps.items)) (outcome_after t limits now next (reached_at events limits t next))
+    (ap₂ (λ (n : ℤ) (r : Result Reached Refusal). outcome_after t limits n next r) moment (by_steps events limits t next winners.steps.items are.0)) (means are.1)
+
+pub winners_gone : (told : Option (List Told)) (listing : Catalogued) (limits : Limits) (t : Transaction) (now : ℤ) (next : ℕ) (refusal result : Refusal) → result ≡ gone refusal
+    → ((events : List Told) → IsListingOf events listing → AreWinners events t.from.version (next - t.from.version) (Err refusal))
+    → IfSome told (λ events. IsListingOf events listing → Refuses result (outcome_after t limits now next (reached_at events limits t next)))
+winners_gone None listing limits t now next refusal result is_gone found = tt
+winners_gone (Some events) listing limits t now next refusal result is_gone found = λ is.
+    subst (λ (r : Refusal). Refuses r (outcome_after t limits now next (reached_at events limits t next))) (sym is_gone)
+    (gone_by_part (λ (found_steps : Result (List Step) Refusal). outcome_after t limits now next (reached_from events limits t found_steps)) (λ r. refl) refusal
+    (sources events t.from.version (next - t.from.version)) (found events is))
+
+-- ---- after the winners
+
+-- what was reached refuses, or is the own commit, or leads on
+pub after_refused : (told : Option (List Told)) (limits : Limits) (t : Transaction) (now : ℤ) (next : ℕ) (state : TableState) (found : List Step) (sizes : List (Option ℕ)) (refusal : Refusal) → state ≡ t.from.before
+    → IfSome told (λ events. AreSized events found sizes → Refuses refusal (reached_by events limits t state found))
+    → IfSome told (λ events. AreSized events found sizes → Refuses refusal (outcome_after t limits now next (reached_by events limits t t.from.before found)))
+after_refused None limits t now next state found sizes refusal same means = tt
+after_refused (Some events) limits t now next state found sizes refusal same means = λ sized.
+    subst (λ (s : TableState). Refuses refusal (outcome_after t limits now next (reached_by events limits t s found))) same
+    (refused_by_part (outcome_after t limits now next) (λ r. refl) refusal (reached_by events limits t state found) (means sized))
+
+pub after_own : (told : Option (List Told)) (limits : Limits) (t : Transaction) (now : ℤ) (next : ℕ) (state : TableState) (found : List Step) (sizes : List (Option ℕ)) (version : ℕ) → state ≡ t.from.before
+    → IfSome told (λ events. AreSized events found sizes → reached_by events limits t state found ≡ Ok (At_own version))
+    → IfSome told (λ events. AreSized events found sizes → outcome_after t limits now next (reached_by events limits t t.from.before found) ≡ Ok (Stands version))
+after_own None limits t now next state found sizes version same means = tt
+after_own (Some events) limits t now next state found sizes version same means = λ sized.
+    ap (outcome_after t limits now next) (ap (λ (s : TableState). reached_by events limits t s found) (sym same) ∙ means sized)
+
+pub after_others : {X : Type 0} (view : X → Outcome) (told : Option (List Told)) (limits : Limits) (t : Transaction) (now passed : ℤ) (next : ℕ) (state after : TableState) (found : List Step) (sizes : List (Option ℕ)) (what : Found) (conflict : Option (ℕ × Kind)) (result : Result X Refusal) → passed ≡ now → state ≡ t.from.before → what ≡ founds.Others conflict
+    → IfSome told (λ events. AreSized events found sizes → reached_by events limits t state found ≡ Ok (reached after what))
+    → Gives view result (to_write (writing_at t limits passed (record { version = next; before = after }) conflict))
+    → IfSome told (λ events. AreSized events found sizes → Gives view result (outcome_after t limits now next (reached_by events limits t t.from.before found)))
+after_others view None limits t now passed next state after found sizes what conflict result moment same others reaches means = tt
+after_others view (Some events) limits t now passed next state after found sizes what conflict result moment same others reaches means = λ sized.
+    gives_same view result (to_write (writing_at t limits passed (record { version = next; before = after }) conflict)) (outcome_after t limits now next (reached_by events limits t t.from.before found))
+    (ap (λ (n : ℤ). to_write (writing_at t limits n (record { version = next; before = after }) conflict)) moment
+    ∙ ap (outcome_after t limits now next) (sym (ap (λ (s : TableState). reached_by events limits t s found) (sym same) ∙ reaches sized ∙ ap (λ (f : Found). Ok (reached after f)) others))) means
+
+-- ---- by the listing
+
+chosen_if : {X : Type 0} (test : Bool) (one other : X) → test ≡ true → (if test then one else other) ≡ one
+chosen_if true one other is = refl
+chosen_if false one other is = absurd (let no : false ≡ true = is in cc)
+
+other_if : {X : Type 0} (test : Bool) (one other : X) → test ≡ false → (if test then one else other) ≡ other
+other_if true one other is = absurd (let no : true ≡ false = is in cc)
+other_if false one other is = refl
+
+module _ (limits : Limits) (t : Transaction) (now : ℤ) (listing : Catalogued) (last : Option ℕ) (next : ℕ) (is_latest : last ≡ latest_of listing) (is_next : next ≡ next_after t.from.version last) where
+  outcome_is : (events : List Told) → IsListingOf events listing → outcome events limits t now ≡ outcome_at events limits t now next
+  outcome_is events is = ap (outcome_at events limits t now) (ap (next_after t.from.version) (sym (latest_standing events listing is) ∙ sym is_latest) ∙ sym is_next)
+
+  pub no_next : (told : Option (List Told)) → nat_lt last_version next ≡ true
+      → IfSome told (λ events. IsListingOf events listing → outcome events limits t now ≡ Err (refusals.Limit which.Version last_version))
+  no_next None above = tt
+  no_next (Some events) above = λ is.
+      outcome_is events is ∙ chosen_if (nat_lt last_version next) (Err (refusals.Limit which.Version last_version)) (outcome_after t limits now next (reached_at events limits t next)) above
+
+  pub listed_next : {X : Type 0} (view : X → Outcome) (told : Option (List Told)) (passed : ℤ) (result : Result X Refusal) → passed ≡ now → nat_lt last_version next ≡ false
+      → IfSome told (λ events. IsListingOf events listing → Gives view result (outcome_after t limits passed next (reached_at events limits t next)))
+      → IfSome told (λ events. IsListingOf events listing → Gives view result (outcome events limits t now))
+  listed_next view None passed result moment within means = tt
+  listed_next view (Some events) passed result moment within means = λ is.
+      gives_same view result (outcome_after t limits passed next (reached_at events limits t next)) (outcome events limits t now)
+      (ap (λ (n : ℤ). outcome_after t limits n next (reached_at events limits t next)) moment
+      ∙ sym (other_if (nat_lt last_version next) (Err (refusals.Limit which.Version last_version)) (outcome_after t limits now next (reached_at events limits t next)) within)
+      ∙ sym (outcome_is events is)) (means is)
+
+-- ---- by a survey
+
+refused_survey : (events : List Told) (limits : Limits) (t : Transaction) (now : ℤ) (refusal : Refusal) → Surveys events (Err refusal) → Refuses refusal (outcome events limits t now)
+refused_survey events limits t now refusals.Store found = tt
+refused_survey events limits t now refusals.OutOfMemory found = tt
+refused_survey events limits t now refusal found = absurd found
+
+pub survey_refused : (told : Option (List Told)) (limits : Limits) (t : Transaction) (now : ℤ) (refusal : Refusal) → IfSome told (λ events. Surveys events (Err refusal))
+    → IfSome told (λ events. Refuses refusal (outcome events limits t now))
+survey_refused None limits t now refusal found = tt
+survey_refused (Some events) limits t now refusal found = refused_survey events limits t now refusal found
+
+pub survey_found : {X : Type 0} (view : X → Outcome) (told mid : Option (List Told)) (limits : Limits) (t : Transaction) (now passed : ℤ) (listing : Catalogued) (result : Result X Refusal) → passed ≡ now → mid ≡ told
+    → IfSome told (λ events. IsListingOf events listing)
+    → IfSome mid (λ events. IsListingOf events listing → Gives view result (outcome events limits t passed))
+    → IfSome told (λ events. Gives view result (outcome events limits t now))
+survey_found view None mid limits t now passed listing result moment still found means = tt
+survey_found view (Some events) mid limits t now passed listing result moment still found means =
+    let here : IsListingOf events listing → Gives view result (outcome events limits t passed) = rw still at means in
+    gives_same view result (outcome events limits t passed) (outcome events limits t now) (ap (λ (n : ℤ). outcome events limits t n) moment) (here found)
+
+-- ---- what is to be written
+
+passed_last : (first last : Result (Unit {0}) Refusal) (u : Unit {0}) → and_also first last ≡ Ok u → last ≡ Ok u
+passed_last (Ok v) last u is = is
+passed_last (Err refusal) last u is = absurd (let no : ◌≡◌ {A = Result (Unit {0}) Refusal} (Err refusal) (Ok u) = is in cc)
+
+passed_first : (first last : Result (Unit {0}) Refusal) (u : Unit {0}) → and_also first last ≡ Ok u → first ≡ Ok u
+passed_first (Ok v) last u is = refl
+passed_first (Err refusal) last u is = is
+
+module _ (t : Transaction) (limits : Limits) (now : ℤ) (from : Start) (conflict : Option (ℕ × Kind)) (u : Unit {0}) (may : may_come t from conflict ≡ Ok u) (text : List ℕ) where
+  fits_at : text ≡ commit_text t.id now t.actions.items → if_within limits.object (from.version, text) ≡ writing_at t limits now from conflict
+  fits_at is =
+      ap (λ (x : List ℕ). if_within limits.object (from.version, x)) is
+      ∙ ap (λ (m : Result (Unit {0}) Refusal). if_allowed m (if_within limits.object (from.version, commit_text t.id now t.actions.items))) (sym may)
+
+  pub written_at : {X : Type 0} (view : X → Writing) (result : Result X Refusal) (writing : Writing) → text ≡ commit_text t.id now t.actions.items → if_within limits.object (from.version, text) ≡ Ok writing
+      → to_write (writing_at t limits now from conflict) ≡ Ok (Writes writing)
+  written_at view result writing is fit = ap to_write (sym (fits_at is) ∙ fit)
+
+  pub refused_at : (refusal : Refusal) → text ≡ commit_text t.id now t.actions.items → Refuses refusal (if_within limits.object (from.version, text)) → Refuses refusal (to_write (writing_at t limits now from conflict))
+  refused_at refusal is fit = refused_by_part to_write (λ r. refl) refusal (writing_at t limits now from conflict) (subst (λ (m : Result Writing Refusal). Refuses refusal m) (fits_at is) fit)
+
+  pub may_allowed : allowed from t.actions.items t.id ≡ Ok u
+  may_allowed = passed_first (allowed from t.actions.items t.id) (unless_conflict conflict) u (passed_last (headed (oldest_of t.segment) from) (and_also (allowed from t.actions.items t.id) (unless_conflict conflict)) u may)
+
+  -- what is written reads back as the own commit
+  pub reads_at : (own : List Action) (written : List ℕ) → own ≡ t.actions.items → written ≡ text
+      → (AllByRecursion IsReadable own → commit_of text ≡ Some (own_info (id_text t.id) ∷ written_of own)) → commit_of written ≡ Some (own_commit t.id t.actions.items)
+  reads_at own written own_is same reads =
+      ap commit_of same
+      ∙ allowed_reads from t.actions.items t.id text u may_allowed (subst (λ (o : List Action). AllByRecursion IsReadable o → commit_of text ≡ Some (own_info (id_text t.id) ∷ written_of o)) own_is reads)
+
+-- the rules, of the actions as they are lent
+pub rules_refuse : (t : Transaction) (from : Start) (conflict : Option (ℕ × Kind)) (own : List Action) (refusal : Refusal) → own ≡ t.actions.items → Refuses refusal (allowed from own t.id) → Refuses refusal (rules_keep t from conflict)
+rules_refuse t from conflict own refusal same means =
+    refused_by_part (λ (first : Result (Unit {0}) Refusal). and_also first (unless_conflict conflict)) (λ r. refl) refusal (allowed from t.actions.items t.id)
+    (subst (λ (o : List Action). Refuses refusal (allowed from o t.id)) same means)
+
+pub rules_pass : (t : Transaction) (from : Start) (conflict : Option (ℕ × Kind)) (own : List Action) (u : Unit {0}) (result : Result (Unit {0}) Refusal) → own ≡ t.actions.items → allowed from own t.id ≡ Ok u
+    → Gives (λ (v : Unit {0}). v) result (unless_conflict conflict) → Gives (λ (v : Unit {0}). v) result (rules_keep t from conflict)
+rules_pass t from conflict own u result same passes means =
+    gives_same (λ (v : Unit {0}). v) result (unless_conflict conflict) (rules_keep t from conflict)
+    (ap (λ (first : Result (Unit {0}) Refusal). and_also first (unless_conflict conflict)) (sym passes ∙ ap (λ (o : List Action). allowed from o t.id) same)) means

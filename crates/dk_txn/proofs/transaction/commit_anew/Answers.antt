@@ -1,0 +1,5 @@
+use Rattle.dk_txn.proofs.Concluding.{clash_never}
+use Rattle.dk_txn.proofs.transaction.commit_anew.Goals as goal
+
+pub returns-in-Err-Taken-clause-commits : goal.returns-in-Err-Taken-clause-commits
+returns-in-Err-Taken-clause-commits g c = clash_never _ _ c.args.limits c.args.transaction.now _ c.in-Err-Taken.field-0 _ _ c.in-Err-Taken.field-0-is c.in-Err-Taken.ensures.commits

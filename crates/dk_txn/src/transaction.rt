@@ -1,0 +1,215 @@
+//! Transactions: what was read of a table, and what is to be committed to it.
+ghost use Rattle.std.specs.Prelude.{◌≡◌, ◌≤◌, ◌<◌, ◌^◌, ◌++◌, ◌∷◌, [], ℕ, List, Ok, Err, Some, None, IfSome, OnOk, OnErr, is_some, option_map, true};
+ghost use Rattle.std.specs.Option.{ForSome};
+ghost use Rattle.dk_store.specs.Causes.{Rose};
+ghost use Rattle.dk_engine.specs.Answers.{Gives};
+ghost use Rattle.dk_txn.specs.Transactions.{Begins, Concludes, Remembers, outcome, start_of, version_meant};
+
+use crate::commit::{Committed, write};
+use crate::prepared::{Prepared, prepare};
+use crate::start::Start;
+use dk_conflicts::Reads;
+use dk_engine::{JsonHandler, Limits, Refusal};
+use dk_lawful::Segment;
+use dk_model::{Action, TableState};
+use dk_snapshot::Snapshot;
+use dk_store::Store;
+use std::alloc::{AllocError, Global};
+
+/// What was read of a table, and what is to be committed to it.
+#[derive(Drop)]
+pub struct Transaction {
+    /// What it comes after: the version after its snapshot's with the snapshot's state, or version 0 with the empty state.
+    pub(crate) from: Start,
+    /// The objects that its snapshot was read from.
+    pub(crate) segment: Option<Segment>,
+    pub(crate) reads: Reads,
+    pub(crate) id: u128,
+    /// What it commits, behind the line in which it speaks of its commit.
+    pub(crate) actions: Vec<Action>,
+    /// The version that was answered.
+    pub(crate) committed: Option<u64>,
+}
+
+/// What comes after a snapshot, and the objects that it was read from.
+fn start_of(alloc: Global, snapshot: Option<Snapshot>) -> (Start, Option<Segment>)
+    requires { ForSome snapshot (λ s. s.version < 2 ^ 63) }
+    ensures from { result.0 ≡ start_of snapshot }
+    ensures segment { result.1 ≡ option_map (λ s. s.segment) snapshot }
+{
+    match snapshot {
+        None => (
+            Start {
+                version: 0,
+                before: TableState::new(alloc),
+            },
+            None,
+        ),
+        Some(snapshot) => {
+            let Snapshot {
+                version,
+                state,
+                cut: _,
+                segment,
+            } = snapshot;
+            (
+                Start {
+                    version: version + 1,
+                    before: state,
+                },
+                Some(segment),
+            )
+        }
+    }
+}
+
+/// Commits, unless something was put at the commit's path since the log was listed.
+fn commit_once(
+    alloc: Global,
+    store: &mut dyn Store,
+    json: &mut dyn JsonHandler,
+    limits: Limits,
+    transaction: &Transaction,
+    now: i64,
+) -> Result<Committed, Refusal>
+    ensures commits { IfSome (told store.old) (λ events. Concludes (outcome events limits transaction.now now) events result (told store.new)) }
+    ensures alike { is_some (told store.new) ≡ is_some (told store.old) }
+    ensures later { store_faults store.old ≤ store_faults store.new }
+    ensures clashes_later { clashes store.old ≤ clashes store.new }
+    ensures store { result ≡ Err Refusal.Store → Rose (store_faults store.old) (store_faults store.new) }
+    ensures taken { (path : List ℕ) → result ≡ Err (Refusal.Taken path) → Rose (clashes store.old) (clashes store.new) }
+{
+    match prepare(alloc, store, json, limits, transaction, now) {
+        Err(refusal) => Err(refusal),
+        Ok(Prepared::Standing { version }) => Ok(Committed { version }),
+        Ok(Prepared::Writing(writing)) => write(alloc, store, &writing, now),
+    }
+}
+
+/// Commits; after a clash all begins again once.
+fn commit_anew(
+    alloc: Global,
+    store: &mut dyn Store,
+    json: &mut dyn JsonHandler,
+    limits: Limits,
+    transaction: &Transaction,
+    now: i64,
+) -> Result<Committed, Refusal>
+    ensures commits { IfSome (told store.old) (λ events. Concludes (outcome events limits transaction.now now) events result (told store.new)) }
+    ensures alike { is_some (told store.new) ≡ is_some (told store.old) }
+    ensures later { store_faults store.old ≤ store_faults store.new }
+    ensures clashes_later { clashes store.old ≤ clashes store.new }
+    ensures store { result ≡ Err Refusal.Store → Rose (store_faults store.old) (store_faults store.new) }
+    ensures taken { (path : List ℕ) → result ≡ Err (Refusal.Taken path) → Rose (clashes store.old) (clashes store.new) }
+{
+    match commit_once(alloc, store, json, limits, transaction, now) {
+        Err(Refusal::Taken { .. }) => commit_once(alloc, store, json, limits, transaction, now),
+        answer => answer,
+    }
+}
+
+impl Transaction {
+    /// A transaction that has read so much of the snapshot and commits nothing yet. Without a snapshot the log was empty. `id`
+    /// is the id that its commit's first line has, in lower case with hyphens; no other transaction may have it. Takes no
+    /// memory.
+    pub fn begin(alloc: Global, snapshot: Option<Snapshot>, reads: Reads, id: u128) -> Transaction
+        requires { ForSome snapshot (λ s. s.version < 2 ^ 63) }
+        ensures { Begins snapshot reads id result }
+    {
+        let (from, segment) = start_of(alloc, snapshot);
+        Transaction {
+            from,
+            segment,
+            reads,
+            id,
+            actions: Vec::new(alloc),
+            committed: None,
+        }
+    }
+
+    /// Lays an action behind those that are to be committed.
+    pub fn put(&mut self, action: Action) -> Result<(), AllocError>
+        ensures ok { OnOk result (self.new.actions.items ≡ self.old.actions.items ++ action ∷ []) }
+        ensures err { OnErr result (self.new.actions.items ≡ self.old.actions.items) }
+        ensures same { self.new ≡ record self.old { actions = self.new.actions } }
+    {
+        self.actions.push(action)?;
+        Ok(())
+    }
+
+    /// The version that a commit would get now, or the one that it has; nothing is written. It is refused as
+    /// [`Transaction::commit`] is, and never by `Taken`.
+    pub fn check(
+        &self,
+        alloc: Global,
+        store: &mut dyn Store,
+        json: &mut dyn JsonHandler,
+        limits: Limits,
+        now: i64,
+    ) -> Result<u64, Refusal>
+        ensures same { told store.new ≡ told store.old }
+        ensures clashes { clashes store.new ≡ clashes store.old }
+        ensures later { store_faults store.old ≤ store_faults store.new }
+        ensures store { result ≡ Err Refusal.Store → Rose (store_faults store.old) (store_faults store.new) }
+        ensures taken { (path : List ℕ) → result ≡ Err (Refusal.Taken path) → ⊥ }
+        ensures committed { IfSome self.now.committed (λ version. result ≡ Ok version) }
+        ensures means { self.now.committed ≡ None
+            → IfSome (told store.old) (λ events. Gives (λ version. version) result (version_meant (outcome events limits self.now now))) }
+    {
+        match self.committed {
+            Some(version) => Ok(version),
+            None => match prepare(alloc, store, json, limits, self, now) {
+                Err(refusal) => Err(refusal),
+                Ok(prepared) => Ok(prepared.version()),
+            },
+        }
+    }
+
+    /// Commits as the next version of the table, or as its version 0 (Delta Lake's PROTOCOL.md, "Delta Log Entries",
+    /// "Commit Provenance Information").
+    ///
+    /// `now` is the moment of the call in milliseconds since 1970-01-01T00:00:00Z. The log, its staged commits and the
+    /// catalogue are listed once each. Then the winners are read, the commits that came after the snapshot, in ascending
+    /// order and each once: published where it is listed, else the staged one where that stands ratified. A winner that says
+    /// the transaction's id is its own commit, made by a call whose answer was lost: its version is answered, and nothing
+    /// is written. Else the whole text is made, and put where nothing stands. Where another writer was there first, all
+    /// begins again once. After an Ok the same is answered again, with no call of the store and no memory. After any refusal
+    /// the transaction is as before, and the call may be made again.
+    ///
+    /// Beside faults of the store and want of memory it is refused, in this order: `Limit` of `Version` where no version can
+    /// follow the latest or the snapshot's, `WinnersGone` of the first version whose commit isn't listed, of the first winner
+    /// that can't be read `Limit` of `Object` or `Damaged`, `Damaged` of the oldest object as a whole where the table has
+    /// no protocol or no metadata, `Unsupported` of what the table asks of a writer, `Invalid` where a rule is broken,
+    /// `Conflict` with the first winner that is in the way, `Limit` of `Object` where the text is greater than
+    /// `limits.object` bytes, `Taken` where two other writers were there first.
+    pub fn commit(
+        &mut self,
+        alloc: Global,
+        store: &mut dyn Store,
+        json: &mut dyn JsonHandler,
+        limits: Limits,
+        now: i64,
+    ) -> Result<Committed, Refusal>
+        ensures again { IfSome self.old.committed (λ version. result ≡ Ok (record { version = version })) }
+        ensures untouched { is_some self.old.committed ≡ true → store.new ≡ store.old }
+        ensures commits { self.old.committed ≡ None
+            → IfSome (told store.old) (λ events. Concludes (outcome events limits self.old now) events result (told store.new)) }
+        ensures remembers { Remembers self.old result self.new }
+        ensures alike { is_some (told store.new) ≡ is_some (told store.old) }
+        ensures later { store_faults store.old ≤ store_faults store.new }
+        ensures clashes_later { clashes store.old ≤ clashes store.new }
+        ensures store { result ≡ Err Refusal.Store → Rose (store_faults store.old) (store_faults store.new) }
+        ensures taken { (path : List ℕ) → result ≡ Err (Refusal.Taken path) → Rose (clashes store.old) (clashes store.new) }
+    {
+        if let Some(version) = self.committed {
+            return Ok(Committed { version });
+        }
+        match commit_anew(alloc, store, json, limits, self, now) {
+            Err(refusal) => Err(refusal),
+            Ok(committed) => {
+                self.committed = Some(committed.version);
+                Ok(committed)
+            }
+        }
+    }
+}

@@ -1,0 +1,171 @@
+//! The winners: the commits that came after a transaction's snapshot.
+ghost use Rattle.std.specs.Prelude.{◌≡◌, ◌≤◌, ◌<◌, ◌+◌, ◌^◌, ℕ, List, Err, None, IfOk, IfSome, length, option_and_then, slice_get};
+ghost use Rattle.std.specs.List.{list_any};
+ghost use Rattle.std.specs.Option.{option_or};
+ghost use Rattle.dk_store.specs.Told.{Told};
+ghost use Rattle.dk_store.specs.Causes.{Rose};
+ghost use Rattle.dk_model.specs.declared.action.Action.{Action};
+ghost use Rattle.dk_conflicts.specs.declared.reads.Reads.{Reads};
+ghost use Rattle.dk_conflicts.specs.Claims.{AreClaims};
+ghost use Rattle.dk_conflicts.specs.Conflicts.{first_in_the_way, kind_of};
+ghost use Rattle.dk_engine.specs.Answers.{Gives};
+ghost use Rattle.dk_lawful.specs.Ids.{says};
+ghost use Rattle.dk_listing.specs.OfEvents.{IsListingOf};
+ghost use Rattle.dk_snapshot.specs.Steps.{AreSized};
+ghost use Rattle.dk_txn.specs.Winners.{AreWinners, gone, since_steps};
+ghost use Rattle.dk_txn.specs.Transactions.{come_to, reached};
+
+use dk_conflicts::Claims;
+use dk_engine::{JsonHandler, Refusal};
+use dk_lawful::Step;
+use dk_listing::Catalogued;
+use dk_model::{Action, Kind, TableState};
+use dk_segment::find_commits;
+use dk_snapshot::{read_step, step_sizes};
+use dk_store::Store;
+use std::alloc::Global;
+
+/// From where the winners are read, the oldest first.
+#[derive(Drop)]
+pub(crate) struct Winners {
+    pub steps: Vec<Step>,
+    /// The listed size of each, in bytes.
+    pub sizes: Vec<Option<u64>>,
+}
+
+/// What was found of the winners.
+#[derive(Clone, Copy)]
+pub(crate) enum Found {
+    /// The transaction's own commit stands already, as this version.
+    Own { version: u64 },
+    /// All are commits of others; the first that is in the way, if one is, by its version.
+    Others { conflict: Option<(u64, Kind)> },
+}
+
+/// From where the commits of so many versions are read, from `first` on, by the listing that a survey found.
+pub(crate) fn find_winners(
+    alloc: Global,
+    listing: &Catalogued,
+    first: u64,
+    count: u64,
+) -> Result<Winners, Refusal>
+    requires { first + count ≤ 2 ^ 63 }
+    ensures found { (events : List Told) → IsListingOf events listing.now → AreWinners events first count result }
+    ensures many { IfOk result (λ winners. length winners.steps.items ≤ count) }
+    ensures store { result ≡ Err Refusal.Store → ⊥ }
+    ensures taken { (path : List ℕ) → result ≡ Err (Refusal.Taken path) → ⊥ }
+{
+    match find_commits(alloc, listing, first, count) {
+        Err(refusal) => Err(refusal),
+        Ok(steps) => {
+            let sizes = step_sizes(alloc, listing, &steps)?;
+            Ok(Winners { steps, sizes })
+        }
+    }
+}
+
+/// Whether an action is the line in which the transaction of this id speaks of its commit.
+fn says(id: &str, action: &Action) -> bool
+    ensures { result ≡ says id.now action.now }
+{
+    match action {
+        Action::Info(info) => match &info.txn_id {
+            Some(said) => said.as_str() == id,
+            None => false,
+        },
+        _ => false,
+    }
+}
+
+/// Whether a commit is that of the transaction of this id.
+fn has_id(id: &str, commit: &[Action]) -> bool
+    ensures { result ≡ list_any (says id.now) commit.now }
+{
+    'actions: for action in commit {
+        if says(id, action) {
+            return true;
+        }
+    }
+    false
+}
+
+/// The first commit that is in the way: an earlier one, or else this one, if it is.
+fn first_conflict(
+    earlier: Option<(u64, Kind)>,
+    claims: &Claims<'_>,
+    version: u64,
+    winner: &[Action],
+) -> Option<(u64, Kind)>
+    ensures { (reads : Reads) (own : List Action) → AreClaims claims.now reads own
+        → result ≡ option_or earlier (first_in_the_way version (kind_of reads own winner.now) None) }
+{
+    match earlier {
+        Some(conflict) => Some(conflict),
+        None => match claims.kind(winner) {
+            Some(kind) => Some((version, kind)),
+            None => None,
+        },
+    }
+}
+
+/// The size at a place of a list of sizes, if one is known.
+fn size_at(sizes: &[Option<u64>], place: usize) -> Option<u64>
+    ensures { result ≡ option_and_then (λ size. size) (slice_get sizes.now place) }
+{
+    match sizes.get(place) {
+        Some(size) => *size,
+        None => None,
+    }
+}
+
+/// A winner that is missing is gone.
+pub(crate) fn gone(refusal: Refusal) -> Refusal
+    ensures { result ≡ gone refusal }
+{
+    match refusal {
+        Refusal::Missing { path } => Refusal::WinnersGone { path },
+        refusal => refusal,
+    }
+}
+
+/// Reads the winners, the oldest first, each once, up to the transaction's own commit. `first` is the version of the first.
+/// `state` becomes the state after them, if all are others'.
+pub(crate) fn read_winners(
+    alloc: Global,
+    store: &mut dyn Store,
+    json: &mut dyn JsonHandler,
+    limit: u64,
+    winners: &Winners,
+    first: u64,
+    id: &str,
+    claims: &Claims<'_>,
+    state: &mut TableState,
+) -> Result<Found, Refusal>
+    requires { first + length winners.now.steps.items ≤ 2 ^ 63 }
+    ensures same { told store.new ≡ told store.old }
+    ensures clashes { clashes store.new ≡ clashes store.old }
+    ensures later { store_faults store.old ≤ store_faults store.new }
+    ensures store { result ≡ Err Refusal.Store → Rose (store_faults store.old) (store_faults store.new) }
+    ensures taken { (path : List ℕ) → result ≡ Err (Refusal.Taken path) → ⊥ }
+    ensures means { (reads : Reads) (own : List Action) → AreClaims claims.now reads own → IfSome (told store.old) (λ events.
+        AreSized events winners.now.steps.items winners.now.sizes.items
+        → Gives (reached state.new) result (come_to reads own first state.old None (since_steps events limit id.now first winners.now.steps.items))) }
+{
+    let mut conflict = None;
+    for place in 0..winners.steps.len() {
+        let step = &winners.steps[place];
+        let size = size_at(&winners.sizes, place);
+        match read_step(alloc, store, json, step, size, limit) {
+            Err(refusal) => return Err(refusal),
+            Ok(commit) => {
+                let version = first + place as u64;
+                if has_id(id, commit.as_slice()) {
+                    return Ok(Found::Own { version });
+                }
+                conflict = first_conflict(conflict, claims, version, commit.as_slice());
+                state.absorb(alloc, commit)?;
+            }
+        }
+    }
+    Ok(Found::Others { conflict })
+}
