@@ -1,8 +1,8 @@
 -- What the program's answer owes to the meaning of its command.
-use Rattle.std.specs.Prelude.{ℕ, ◌≡◌, true, false, List, Option, Some, None, Result, Ok, take, String}
+use Rattle.std.specs.Prelude.{ℕ, ◌≡◌, true, List, Option, Some, None, Result, Ok, take, String}
 use Rattle.std.specs.Global.{Global}
 use Rattle.dk_store.specs.Stream.{more}
-use Rattle.dk_cli.specs.Words.{words_of, show_of, is_commit}
+use Rattle.dk_cli.specs.Words.{words_of, show_of, commit_of, is_commit}
 use Rattle.dk_cli.specs.declared.status.Status.{Status}
 use Rattle.dk_cli.specs.declared.status.Status.TheVariants as statuses
 use Rattle.dk_engine.specs.declared.refusal.Refusal.{Refusal}
@@ -17,7 +17,7 @@ IsCommit words = is_commit (words_of words) ≡ true
 
 -- the words are no command
 abbrev pub IsNoCommand : List (String Global) → Type 0
-IsNoCommand words = (show_of (words_of words) ≡ None) × (is_commit (words_of words) ≡ false)
+IsNoCommand words = (show_of (words_of words) ≡ None) × (commit_of (words_of words) ≡ None)
 
 -- With Done the sink took the text that is meant, with SinkFault a beginning of it; a refusal is the meaning's, and then nothing was written.
 abbrev pub Answers : Result (List ℕ) Refusal → Option (List ℕ) → Status → Option (List ℕ) → Type 0

@@ -1,8 +1,11 @@
 -- The command line.
-use Rattle.std.specs.Prelude.{ℕ, ◌^◌, ◌==◌, ◌&&◌, not, nat_le, nat_lt, Bool, false, List, [], ◌∷◌, Option, Some, None, option_map, length, map, string_bytes, codes, slice_index, String, if◌then◌else◌}
+use Rattle.std.specs.Prelude.{ℕ, ◌^◌, ◌&&◌, nat_le, nat_lt, Bool, List, [], ◌∷◌, Option, Some, None, is_some, option_map, option_and_then, length, map, string_bytes, codes, String, if◌then◌else◌}
 use Rattle.std.specs.Global.{Global}
 use Rattle.std.specs.Str.{bytes_eq, all_ascii_digits}
 use Rattle.std.specs.Str.Parse.{digits_value}
+use Rattle.dk_store.specs.Listing.{behind}
+use Rattle.dk_conflicts.specs.declared.reads.Reads.{Reads}
+use Rattle.dk_conflicts.specs.declared.reads.Reads.TheVariants as reads
 
 -- by its bytes
 abbrev pub words_of : List (String Global) → List (List ℕ)
@@ -10,26 +13,46 @@ words_of words = map string_bytes words
 
 -- ---- versions
 
-abbrev pub has_leading_zero : List ℕ → Bool
-has_leading_zero word = nat_lt 1 (length word) && (slice_index word 0 == 48)
+-- from 0 to 9,223,372,036,854,775,807, in 1 to 19 decimal digits
+abbrev pub is_short : List ℕ → Bool
+is_short word = nat_lt 0 (length word) && nat_le (length word) 19
 
--- decimal digits without a leading zero
-abbrev pub is_number : List ℕ → Bool
-is_number word = nat_lt 0 (length word) && (not (has_leading_zero word) && all_ascii_digits word)
-
--- from 0 to 9,223,372,036,854,775,807, in at most 19 digits
 abbrev pub version_of : List ℕ → Option ℕ
-version_of word = if is_number word && (nat_le (length word) 19 && nat_lt (digits_value 10 word) (2 ^ 63)) then Some (digits_value 10 word) else None
+version_of word = if (is_short word && all_ascii_digits word) && nat_lt (digits_value 10 word) (2 ^ 63) then Some (digits_value 10 word) else None
+
+-- ---- options
+
+-- The value of the one option that these words give: behind its name in a word of its own, or behind its name and `=` in the same word.
+abbrev pub value_of : List ℕ → List ℕ → List (List ℕ) → Option (List ℕ)
+value_of name joined (word ∷ []) = behind joined word
+value_of name joined (word ∷ (value ∷ [])) = if bytes_eq word name then Some value else None
+value_of name joined _ = None
 
 -- ---- commands
 
--- the version that `show` is asked for: the latest, or a given one; no answer where the words aren't those of `show`
+-- the version that `show` is asked for by its options: the latest, or a given one
+abbrev pub version_asked : List (List ℕ) → Option (Option ℕ)
+version_asked [] = Some None
+version_asked (word ∷ words) = option_map Some (option_and_then version_of (value_of (codes "--at") (codes "--at=") (word ∷ words)))
+
+-- no answer where the words aren't those of `show`
 abbrev pub show_of : List (List ℕ) → Option (Option ℕ)
-show_of (word ∷ []) = if bytes_eq word (codes "show") then Some None else None
-show_of (word ∷ (option ∷ (value ∷ []))) = if bytes_eq word (codes "show") && bytes_eq option (codes "--at") then option_map Some (version_of value) else None
-show_of _ = None
+show_of [] = None
+show_of (word ∷ options) = if bytes_eq word (codes "show") then version_asked options else None
+
+-- what the transaction of `commit` has read, by the word for it
+abbrev pub reads_named : List ℕ → Option Reads
+reads_named word = if bytes_eq word (codes "nothing") then Some reads.Nothing else if bytes_eq word (codes "table") then Some reads.Table else None
+
+abbrev pub reads_asked : List (List ℕ) → Option Reads
+reads_asked [] = Some reads.Nothing
+reads_asked (word ∷ words) = option_and_then reads_named (value_of (codes "--reads") (codes "--reads=") (word ∷ words))
+
+-- no answer where the words aren't those of `commit`
+abbrev pub commit_of : List (List ℕ) → Option Reads
+commit_of [] = None
+commit_of (word ∷ options) = if bytes_eq word (codes "commit") then reads_asked options else None
 
 -- whether the words are those of `commit`
 abbrev pub is_commit : List (List ℕ) → Bool
-is_commit (word ∷ []) = bytes_eq word (codes "commit")
-is_commit _ = false
+is_commit words = is_some (commit_of words)

@@ -14,21 +14,23 @@ ghost use Rattle.dk_cli.specs.Run.{IsUnwritten};
 use crate::actions::take_actions;
 use crate::status::Status;
 use crate::text::committed_text;
+use dk_conflicts::Reads;
 use dk_engine::{Engine, Refusal};
-use dk_model::{Action, Commit};
+use dk_model::Commit;
 use dk_store::{Failed, Sink, Source, Store, give_all};
-use dk_txn::{Committed, commit_now};
+use dk_txn::{Committed, commit_at_latest};
 use std::alloc::Global;
 
-/// Commits these actions to the engine's table.
+/// Commits these actions to the engine's table, by a transaction that begins at the latest version and has read so much of it.
 fn commit(
     alloc: Global,
     engine: &mut Engine,
-    actions: &[Action],
+    reads: Reads,
+    actions: Commit,
     now: i64,
     base: u128,
 ) -> Result<Committed, Refusal>
-    ensures commits { IfSome (told (held engine.old.store)) (λ events. Commits (attempt events engine.old.limits actions.now now base) events result (told (held engine.new.store))) }
+    ensures commits { IfSome (told (held engine.old.store)) (λ events. Commits (attempt events engine.old.limits actions now base) events result (told (held engine.new.store))) }
     ensures alike { is_some (told (held engine.new.store)) ≡ is_some (told (held engine.old.store)) }
     ensures limits { engine.new.limits ≡ engine.old.limits }
     ensures later { store_faults (held engine.old.store) ≤ store_faults (held engine.new.store) }
@@ -36,14 +38,15 @@ fn commit(
     ensures store { result ≡ Err Refusal.Store → Rose (store_faults (held engine.old.store)) (store_faults (held engine.new.store)) }
     ensures taken { (path : List ℕ) → result ≡ Err (Refusal.Taken path) → Rose (clashes (held engine.old.store)) (clashes (held engine.new.store)) }
     ensures lawful { KeepsLawful (told (held engine.old.store)) (told (held engine.new.store)) }
-    ensures history { IfBoth (told (held engine.old.store)) (told (held engine.new.store)) (SaysHistory (own_commit base actions.now) result) }
+    ensures history { IfBoth (told (held engine.old.store)) (told (held engine.new.store)) (SaysHistory (own_commit base actions) result) }
 {
     let limits = engine.limits;
-    commit_now(
+    commit_at_latest(
         alloc,
         &mut *engine.store,
         &mut *engine.json,
         limits,
+        reads,
         actions,
         now,
         base,
@@ -71,14 +74,15 @@ fn commit_actions<O: Sink>(
     alloc: Global,
     engine: &mut Engine,
     out: &mut O,
-    actions: &[Action],
+    reads: Reads,
+    actions: Commit,
     now: i64,
     base: u128,
 ) -> Status
-    ensures answer { IfSome (told (held engine.old.store)) (λ events. CommitEnds (attempt events engine.old.limits actions.now now base) events (O.taken out.old) result (O.taken out.new) (told (held engine.new.store))) }
+    ensures answer { IfSome (told (held engine.old.store)) (λ events. CommitEnds (attempt events engine.old.limits actions now base) events (O.taken out.old) result (O.taken out.new) (told (held engine.new.store))) }
     ensures alike { is_some (told (held engine.new.store)) ≡ is_some (told (held engine.old.store)) }
     ensures lawful { KeepsLawful (told (held engine.old.store)) (told (held engine.new.store)) }
-    ensures history { IfBoth (told (held engine.old.store)) (told (held engine.new.store)) (SaysEnd (own_commit base actions.now) result (O.taken out.old) (O.taken out.new)) }
+    ensures history { IfBoth (told (held engine.old.store)) (told (held engine.new.store)) (SaysEnd (own_commit base actions) result (O.taken out.old) (O.taken out.new)) }
     ensures limits { engine.new.limits ≡ engine.old.limits }
     ensures store_later { store_faults (held engine.old.store) ≤ store_faults (held engine.new.store) }
     ensures clashes_later { clashes (held engine.old.store) ≤ clashes (held engine.new.store) }
@@ -90,7 +94,7 @@ fn commit_actions<O: Sink>(
     ensures taken { (path : List ℕ) → result ≡ Status.Refused (Refusal.Taken path) → Rose (clashes (held engine.old.store)) (clashes (held engine.new.store)) }
     ensures unwritten { IsUnwritten result (O.taken out.old) (O.taken out.new) }
 {
-    match commit(alloc, engine, actions, now, base) {
+    match commit(alloc, engine, reads, actions, now, base) {
         Err(refusal) => Status::Refused(refusal),
         Ok(committed) => give_committed(alloc, out, committed.version),
     }
@@ -122,6 +126,7 @@ pub(crate) fn commit_command<I: Source, O: Sink>(
     engine: &mut Engine,
     input: &mut I,
     out: &mut O,
+    reads: Reads,
     now: i64,
     base: u128,
 ) -> Status
@@ -147,6 +152,6 @@ pub(crate) fn commit_command<I: Source, O: Sink>(
 {
     match read_actions(alloc, engine, input) {
         Err(status) => status,
-        Ok(commit) => commit_actions(alloc, engine, out, commit.as_slice(), now, base),
+        Ok(commit) => commit_actions(alloc, engine, out, reads, commit, now, base),
     }
 }

@@ -14,7 +14,7 @@ ghost use Rattle.dk_cli.specs.History.{ShowsLog};
 use crate::commit::commit_command;
 use crate::show::show_text;
 use crate::status::Status;
-use crate::words::{is_commit, show_of};
+use crate::words::{commit_of, show_of};
 use dk_engine::{Engine, Refusal};
 use dk_store::{Failed, Sink, Source, Store, give_all};
 use std::alloc::Global;
@@ -53,8 +53,8 @@ fn show_command<O: Sink>(
 /// All that the program does: carries out the command that the words say over the engine, and ends with a status.
 ///
 /// `now` is the moment of the call in milliseconds since 1970-01-01T00:00:00Z, and `base` the first of the ids that a
-/// command may draw. By now the commands are `show`, `show --at V` and `commit`. The whole output is made first and given to
-/// the sink at the end; `commit` reads the input to its end, and its transaction has the id `base`.
+/// command may draw. By now the commands are `show` with `--at V` or without, and `commit` with `--reads nothing` or `--reads table` or without. The whole output is made first and given to
+/// the sink at the end; `commit` reads the input to its end; its transaction begins at the latest version, has read so much of it, and has the id `base`.
 ///
 /// `whole_log` is the promise on `show` in the subject's own words: over a log of commit files 0 to n, where nothing stands
 /// ratified, no checkpoint is listed and no commit is over the limit of objects, and whose version at hand is one that is
@@ -107,8 +107,8 @@ pub fn run<I: Source, O: Sink>(
     if let Some(at) = show_of(words) {
         return show_command(alloc, engine, out, at, now);
     }
-    if is_commit(words) {
-        return commit_command(alloc, engine, input, out, now, base);
+    if let Some(reads) = commit_of(words) {
+        return commit_command(alloc, engine, input, out, reads, now, base);
     }
     Status::Usage
 }

@@ -1,8 +1,10 @@
 //! The words of the command line.
-ghost use Rattle.std.specs.Prelude.{◌≡◌, string_bytes};
+ghost use Rattle.std.specs.Prelude.{◌≡◌, option_copied, string_bytes};
 ghost use Rattle.std.specs.Str.{all_ascii_digits, bytes_eq};
-ghost use Rattle.dk_cli.specs.Words.{has_leading_zero, is_commit, is_number, show_of, version_of, words_of};
+ghost use Rattle.dk_store.specs.Listing.{behind};
+ghost use Rattle.dk_cli.specs.Words.{commit_of, is_short, reads_asked, reads_named, show_of, value_of, version_asked, version_of, words_of};
 
+use dk_conflicts::Reads;
 use dk_paths::MAX_VERSION;
 
 /// The most digits of a version.
@@ -12,12 +14,6 @@ fn is_word(word: &String, text: &str) -> bool
     ensures { result ≡ bytes_eq (string_bytes word.now) text.now }
 {
     word.as_str() == text
-}
-
-fn has_leading_zero(word: &[u8]) -> bool
-    ensures { result ≡ has_leading_zero word.now }
-{
-    word.len() > 1 && word[0] == b'0'
 }
 
 fn are_digits(word: &[u8]) -> bool
@@ -31,18 +27,18 @@ fn are_digits(word: &[u8]) -> bool
     true
 }
 
-/// Whether a word is a number: decimal digits without a leading zero.
-fn is_number(word: &[u8]) -> bool
-    ensures { result ≡ is_number word.now }
+/// Whether a word has from one byte to as many as a version may have digits.
+fn is_short(word: &[u8]) -> bool
+    ensures { result ≡ is_short word.now }
 {
-    !word.is_empty() && !has_leading_zero(word) && are_digits(word)
+    !word.is_empty() && word.len() <= MAX_DIGITS
 }
 
-/// A version: a number of at most 19 digits, from 0 to 9,223,372,036,854,775,807. Takes no memory.
+/// A version: 1 to 19 decimal digits, from 0 to 9,223,372,036,854,775,807. Takes no memory.
 fn version_of(word: &str) -> Option<u64>
     ensures { result ≡ version_of word.now }
 {
-    if !is_number(word.as_bytes()) || word.len() > MAX_DIGITS {
+    if !is_short(word.as_bytes()) || !are_digits(word.as_bytes()) {
         return None;
     }
     match word.parse::<u64>() {
@@ -52,25 +48,73 @@ fn version_of(word: &str) -> Option<u64>
     }
 }
 
+/// What stands behind a front, if that stands there.
+fn behind<'a>(front: &str, text: &'a str) -> Option<&'a str>
+    ensures { option_copied result ≡ behind front.now text.now }
+{
+    text.strip_prefix(front)
+}
+
+/// The value of the one option that the words give: in a word of its own behind the name, or behind the name and `=`. Takes no
+/// memory.
+fn value_of<'a>(name: &str, joined: &str, words: &'a [String]) -> Option<&'a str>
+    ensures { option_copied result ≡ value_of name.now joined.now (words_of words.now) }
+{
+    match words {
+        [word] => behind(joined, word.as_str()),
+        [word, value] if is_word(word, name) => Some(value.as_str()),
+        _ => None,
+    }
+}
+
+/// The version that the options ask `show` for. Takes no memory.
+fn version_asked(options: &[String]) -> Option<Option<u64>>
+    ensures { result ≡ version_asked (words_of options.now) }
+{
+    if options.is_empty() {
+        return Some(None);
+    }
+    let version = version_of(value_of("--at", "--at=", options)?)?;
+    Some(Some(version))
+}
+
 /// The version that the words ask `show` for, where they do: a given one, or the latest. Takes no memory.
 pub(crate) fn show_of(words: &[String]) -> Option<Option<u64>>
     ensures { result ≡ show_of (words_of words.now) }
 {
     match words {
-        [word] if is_word(word, "show") => Some(None),
-        [word, option, value] if is_word(word, "show") && is_word(option, "--at") => {
-            Some(Some(version_of(value.as_str())?))
-        }
+        [word, options @ ..] if is_word(word, "show") => version_asked(options),
         _ => None,
     }
 }
 
-/// Whether the words are those of `commit`. Takes no memory.
-pub(crate) fn is_commit(words: &[String]) -> bool
-    ensures { result ≡ is_commit (words_of words.now) }
+/// What a transaction has read, by the word for it. Takes no memory.
+fn reads_named(word: &str) -> Option<Reads>
+    ensures { result ≡ reads_named word.now }
+{
+    match word {
+        "nothing" => Some(Reads::Nothing),
+        "table" => Some(Reads::Table),
+        _ => None,
+    }
+}
+
+/// What the options say that the transaction of `commit` has read. Takes no memory.
+fn reads_asked(options: &[String]) -> Option<Reads>
+    ensures { result ≡ reads_asked (words_of options.now) }
+{
+    if options.is_empty() {
+        return Some(Reads::Nothing);
+    }
+    reads_named(value_of("--reads", "--reads=", options)?)
+}
+
+/// What the transaction of `commit` has read, where the words are those of `commit`. Takes no memory.
+pub(crate) fn commit_of(words: &[String]) -> Option<Reads>
+    ensures { result ≡ commit_of (words_of words.now) }
 {
     match words {
-        [word] => is_word(word, "commit"),
-        _ => false,
+        [word, options @ ..] if is_word(word, "commit") => reads_asked(options),
+        _ => None,
     }
 }

@@ -309,3 +309,70 @@ fn commit_stops_at_the_limit_that_is_passed_first(rt: HostRuntime) -> Result<(),
     }
     Ok(())
 }
+
+/// The words of a commit of a table's first version, and the status that they end with.
+struct Worded {
+    words: &'static [&'static str],
+    code: u8,
+}
+
+const WORDED: [Worded; 8] = [
+    Worded {
+        words: &["commit"],
+        code: 0,
+    },
+    Worded {
+        words: &["commit", "--reads", "nothing"],
+        code: 0,
+    },
+    Worded {
+        words: &["commit", "--reads", "table"],
+        code: 0,
+    },
+    Worded {
+        words: &["commit", "--reads=table"],
+        code: 0,
+    },
+    Worded {
+        words: &["commit", "--reads"],
+        code: 2,
+    },
+    Worded {
+        words: &["commit", "--reads", "files"],
+        code: 2,
+    },
+    Worded {
+        words: &["commit", "--reads=nothing", "--reads=nothing"],
+        code: 2,
+    },
+    Worded {
+        words: &["commit", "--at", "0"],
+        code: 2,
+    },
+];
+
+fn try_words(rt: &impl Abort, alloc: Global, case: &Worded) -> Result<(), AllocError> {
+    let mut words = Vec::new(alloc);
+    for word in case.words {
+        words.push(String::from_str(alloc, word)?)?;
+    }
+    let mut engine = Engine {
+        store: Box::new(alloc, MemStore::new(alloc))?,
+        json: Box::new(alloc, SerdeJson::new())?,
+        limits: within(Limits::usual()),
+    };
+    let mut input = source(alloc, TABLE, false)?;
+    let mut out = MemSink::new(alloc, Vec::new(alloc));
+    let status = run(alloc, &words, &mut engine, &mut input, &mut out, 1000, 32);
+    assert_eq!(rt; status.code(), case.code, "{}", case.words.len());
+    Ok(())
+}
+
+#[test]
+fn commit_takes_what_was_read_as_an_option(rt: HostRuntime) -> Result<(), Fail> {
+    let alloc = rt.alloc();
+    for case in &WORDED {
+        try_words(&rt, alloc, case)?;
+    }
+    Ok(())
+}

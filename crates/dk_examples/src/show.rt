@@ -122,7 +122,7 @@ struct Case {
     fault: &'static str,
 }
 
-const CASES: [Case; 24] = [
+const CASES: [Case; 27] = [
     Case {
         name: "an empty store lacks its first commit",
         commits: &[],
@@ -232,9 +232,36 @@ const CASES: [Case; 24] = [
         fault: r#"{"usage":{}}"#,
     },
     Case {
-        name: "a number with a leading zero is none",
+        name: "a version may begin with zeros, and stand behind its option's sign",
+        commits: &[&[PROTOCOL, METADATA, ADD_A], &[REMOVE_A]],
+        words: &["show", "--at=0000000000000000000"],
+        fails: Fails::Nothing,
+        code: 0,
+        lines: &[SNAPSHOT_0, PROTOCOL, METADATA, LIVE_A],
+        fault: "",
+    },
+    Case {
+        name: "twenty digits are no version",
         commits: &[&[PROTOCOL, METADATA, ADD_A]],
-        words: &["show", "--at", "00"],
+        words: &["show", "--at", "00000000000000000000"],
+        fails: Fails::Nothing,
+        code: 2,
+        lines: &[],
+        fault: r#"{"usage":{}}"#,
+    },
+    Case {
+        name: "an option stands once",
+        commits: &[&[PROTOCOL, METADATA, ADD_A]],
+        words: &["show", "--at=0", "--at=0"],
+        fails: Fails::Nothing,
+        code: 2,
+        lines: &[],
+        fault: r#"{"usage":{}}"#,
+    },
+    Case {
+        name: "an option of another command is none",
+        commits: &[&[PROTOCOL, METADATA, ADD_A]],
+        words: &["show", "--reads", "table"],
         fails: Fails::Nothing,
         code: 2,
         lines: &[],

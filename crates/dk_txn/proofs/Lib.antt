@@ -1,5 +1,7 @@
+pub mod AtLatest
 pub mod Concluding
 pub mod Next
+pub mod Lawfully
 pub mod NotAbove
 pub mod ReadHistory
 pub mod ReadWinners

@@ -31,13 +31,18 @@ use Rattle.dk_txn.specs.declared.start.Start.{Start}
 abbrev pub last_version : ℕ
 last_version = 2 ^ 63 - 1
 
+-- after a snapshot, or before all
+abbrev pub start_of : Option Snapshot → Start
+start_of None = record { version = 0; before = empty_state }
+start_of (Some snapshot) = record { version = snapshot.version + 1; before = snapshot.state }
+
 abbrev pub after_snapshot : Result Snapshot Refusal → Result Start Refusal
-after_snapshot (Ok snapshot) = Ok (record { version = snapshot.version + 1; before = snapshot.state })
+after_snapshot (Ok snapshot) = Ok (start_of (Some snapshot))
 after_snapshot (Err refusal) = Err refusal
 
 -- by the latest version: nothing, or that version, and nothing comes after the greatest that there can be
 abbrev pub start_after : List Told → Limits → ℤ → Option ℕ → Result Start Refusal
-start_after events limits now None = Ok (record { version = 0; before = empty_state })
+start_after events limits now None = Ok (start_of None)
 start_after events limits now (Some last) =
     if last == last_version then Err (refusals.Limit which.Version last_version) else after_snapshot (opened events limits None usual_choice now)
 

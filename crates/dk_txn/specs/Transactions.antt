@@ -30,15 +30,19 @@ use Rattle.dk_txn.specs.declared.start.Start.{Start}
 use Rattle.dk_txn.specs.declared.transaction.Transaction.{Transaction}
 use Rattle.dk_txn.specs.declared.winners.Found.{Found}
 use Rattle.dk_txn.specs.declared.winners.Found.TheVariants as found
-use Rattle.dk_txn.specs.Attempt.{last_version, own_commit, commit_text, allowed, Writing, if_allowed, if_within}
-use Rattle.dk_txn.specs.Commits.{Commits}
+use Rattle.dk_txn.specs.Attempt.{start_of, last_version, own_commit, commit_text, allowed, Writing, if_allowed, if_within}
+use Rattle.dk_txn.specs.Commits.{Commits, ComesNext, SaysHistory}
 use Rattle.dk_txn.specs.Winners.{Since, Own, Others, since, since_steps, or_gone}
 
 -- ---- how it begins
 
-abbrev pub start_of : Option Snapshot → Start
-start_of None = record { version = 0; before = empty_state }
-start_of (Some snapshot) = record { version = snapshot.version + 1; before = snapshot.state }
+-- it has read so much, has this id, and commits nothing yet
+pub record IsNew (reads : Reads) (id : ℕ) (t : Transaction) : Type 0 where
+  pub reads : t.reads ≡ reads
+  pub id : t.id ≡ id
+  pub actions : t.actions.items ≡ []
+  pub committed : t.committed ≡ None
+  pub small : t.from.version < 2 ^ 63
 
 -- it comes after the snapshot, or before all, and commits nothing yet
 pub record Begins (snapshot : Option Snapshot) (read : Reads) (number : ℕ) (t : Transaction) : Type 0 where
@@ -176,6 +180,22 @@ abbrev pub Concludes : Result Outcome Refusal → List Told → Result Committed
 Concludes (Ok (Stands version)) events result later = AnswersVersion version result × (later ≡ Some events)
 Concludes (Ok (Writes writing)) events result later = Commits (Ok writing) events result later
 Concludes (Err refusal) events result later = Commits (Err refusal) events result later
+
+-- ---- what it did on a lawful log
+
+-- what is to be written may come next
+abbrev pub Comes : Result Outcome Refusal → List Action → List Told → Type 0
+Comes (Ok (Writes writing)) commit events = ComesNext writing.0 commit events
+Comes (Ok (Stands version)) commit events = Unit {0}
+Comes (Err refusal) commit events = Unit {0}
+
+-- what the answer says of the history; where the own commit stands already it says nothing more
+abbrev pub ConcludesHistory : Result Outcome Refusal → List Action → Result Committed Refusal → List Told → List Told → Type 0
+ConcludesHistory (Ok (Writes writing)) commit result events later = SaysHistory commit result events later
+ConcludesHistory (Ok (Stands version)) commit result events later = Unit {0}
+ConcludesHistory (Err refusal) commit result events later = SaysHistory commit result events later
+
+-- ---- what stays
 
 -- after the first Ok a transaction has its version, and is as before otherwise; after a refusal it is as before
 abbrev pub Remembers : Transaction → Result Committed Refusal → Transaction → Type 0

@@ -1,18 +1,14 @@
 //! What a commit is to write.
 ghost use Rattle.std.specs.Prelude.{◌≡◌, ◌≤◌, ◌<◌, ◌^◌, ℕ, List, Ok, Err, Some, IfOk, IfSome};
-ghost use Rattle.dk_store.specs.Causes.{Rose};
-ghost use Rattle.dk_model.specs.CommitText.{commit_of};
 ghost use Rattle.dk_engine.specs.Answers.{Gives};
-ghost use Rattle.dk_txn.specs.Attempt.{own_commit, unsupported, allowed, if_within, attempt_from, attempt};
+ghost use Rattle.dk_txn.specs.Attempt.{unsupported, allowed, if_within};
 
 use crate::rules::first_broken;
-use crate::start::{Start, find_start};
-use crate::text::commit_text;
-use dk_engine::{JsonHandler, Limits, Refusal, Which};
+use crate::start::Start;
+use dk_engine::{Refusal, Which};
 use dk_features::unwritten_name;
 use dk_model::{Action, TableState, Text};
 use dk_snapshot::unreadable;
-use dk_store::Store;
 use std::alloc::{AllocError, Global};
 
 /// What a commit is to write.
@@ -69,54 +65,4 @@ pub(crate) fn within(limit: u64, version: u64, text: Vec<u8>) -> Result<Writing,
         });
     }
     Ok(Writing { version, text })
-}
-
-/// What a commit from there on is to write.
-fn writing_from(
-    alloc: Global,
-    json: &mut dyn JsonHandler,
-    limits: Limits,
-    from: &Start,
-    actions: &[Action],
-    now: i64,
-    id: u128,
-) -> Result<Writing, Refusal>
-    ensures means { Gives (λ w. (w.version, w.text.items)) result (attempt_from (Ok from.now) limits actions.now now id) }
-    ensures reads_back { IfOk result (λ w. commit_of w.text.items ≡ Some (own_commit id actions.now)) }
-    ensures version { IfOk result (λ w. w.version ≡ from.now.version) }
-    ensures store { result ≡ Err Refusal.Store → ⊥ }
-    ensures taken { (path : List ℕ) → result ≡ Err (Refusal.Taken path) → ⊥ }
-{
-    match check(alloc, from, actions) {
-        Err(refusal) => Err(refusal),
-        Ok(()) => {
-            let text = commit_text(alloc, json, actions, now, id)?;
-            within(limits.object, from.version, text)
-        }
-    }
-}
-
-/// What a commit over the store is to write. Nothing is written here.
-pub(crate) fn attempt(
-    alloc: Global,
-    store: &mut dyn Store,
-    json: &mut dyn JsonHandler,
-    limits: Limits,
-    actions: &[Action],
-    now: i64,
-    id: u128,
-) -> Result<Writing, Refusal>
-    ensures same { told store.new ≡ told store.old }
-    ensures clashes { clashes store.new ≡ clashes store.old }
-    ensures later { store_faults store.old ≤ store_faults store.new }
-    ensures store { result ≡ Err Refusal.Store → Rose (store_faults store.old) (store_faults store.new) }
-    ensures taken { (path : List ℕ) → result ≡ Err (Refusal.Taken path) → ⊥ }
-    ensures means { IfSome (told store.old) (λ events. Gives (λ w. (w.version, w.text.items)) result (attempt events limits actions.now now id)) }
-    ensures reads_back { IfOk result (λ w. commit_of w.text.items ≡ Some (own_commit id actions.now)) }
-    ensures small { IfOk result (λ w. w.version < 2 ^ 63) }
-{
-    match find_start(alloc, store, json, limits, now) {
-        Err(refusal) => Err(refusal),
-        Ok(from) => writing_from(alloc, json, limits, &from, actions, now, id),
-    }
 }

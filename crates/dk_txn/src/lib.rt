@@ -4,6 +4,7 @@
 
 mod attempt;
 mod commit;
+mod latest;
 mod prepared;
 mod rules;
 mod start;
@@ -15,5 +16,6 @@ mod transacting;
 mod transaction;
 mod winners;
 
-pub use commit::{Committed, commit_now};
+pub use commit::Committed;
+pub use latest::commit_at_latest;
 pub use transaction::Transaction;

@@ -1,9 +1,10 @@
 //! What a commit comes after.
 ghost use Rattle.std.specs.Prelude.{◌≡◌, ◌≤◌, ◌<◌, ◌^◌, ◌+◌, ℕ, List, Err, IfOk, IfSome};
+ghost use Rattle.std.specs.Option.{ForSome};
 ghost use Rattle.dk_store.specs.Causes.{Rose};
 ghost use Rattle.dk_engine.specs.Answers.{Gives};
 ghost use Rattle.dk_listing.specs.OfEvents.{IsListingOf};
-ghost use Rattle.dk_txn.specs.Attempt.{start};
+ghost use Rattle.dk_txn.specs.Attempt.{start, start_of};
 
 use dk_engine::{JsonHandler, Limits, Refusal, Which};
 use dk_listing::Catalogued;
@@ -22,40 +23,25 @@ pub struct Start {
     pub before: TableState,
 }
 
-/// What comes after a snapshot.
-fn after(snapshot: Snapshot) -> Start
-    requires { snapshot.version < 2 ^ 63 }
-    ensures version { result.version ≡ snapshot.version + 1 }
-    ensures before { result.before ≡ snapshot.state }
-{
-    Start {
-        version: snapshot.version + 1,
-        before: snapshot.state,
-    }
-}
-
-/// What a commit comes after, by the listing that a survey found.
-fn start_listed(
+/// The latest version, which a commit is to come after, by the listing that a survey found; none of an empty log.
+fn open_latest_listed(
     alloc: Global,
     store: &mut dyn Store,
     json: &mut dyn JsonHandler,
     limits: Limits,
     listing: &Catalogued,
     now: i64,
-) -> Result<Start, Refusal>
+) -> Result<Option<Snapshot>, Refusal>
     ensures same { told store.new ≡ told store.old }
     ensures clashes { clashes store.new ≡ clashes store.old }
     ensures later { store_faults store.old ≤ store_faults store.new }
     ensures store { result ≡ Err Refusal.Store → Rose (store_faults store.old) (store_faults store.new) }
     ensures taken { (path : List ℕ) → result ≡ Err (Refusal.Taken path) → ⊥ }
-    ensures means { IfSome (told store.old) (λ events. IsListingOf events listing.now → Gives (λ from. from) result (start events limits now)) }
-    ensures small { IfOk result (λ from. from.version < 2 ^ 63) }
+    ensures means { IfSome (told store.old) (λ events. IsListingOf events listing.now → Gives start_of result (start events limits now)) }
+    ensures small { IfOk result (λ snapshot. ForSome snapshot (λ s. s.version + 1 < 2 ^ 63)) }
 {
     let Some(latest) = listing.latest() else {
-        return Ok(Start {
-            version: 0,
-            before: TableState::new(alloc),
-        });
+        return Ok(None);
     };
     if latest == MAX_VERSION {
         return Err(Refusal::Limit {
@@ -66,28 +52,29 @@ fn start_listed(
     let choice = usual_choice();
     match open_listed(alloc, store, json, limits, listing, None, &choice, now) {
         Err(refusal) => Err(refusal),
-        Ok(snapshot) => Ok(after(snapshot)),
+        Ok(snapshot) => Ok(Some(snapshot)),
     }
 }
 
-/// What a commit comes after: lists the log, its staged commits and the catalogue once each, and reads each commit once.
-pub(crate) fn find_start(
+/// The latest version, which a commit is to come after; none of an empty log. Lists the log, its staged commits and the
+/// catalogue once each, and reads each commit once.
+pub(crate) fn open_latest(
     alloc: Global,
     store: &mut dyn Store,
     json: &mut dyn JsonHandler,
     limits: Limits,
     now: i64,
-) -> Result<Start, Refusal>
+) -> Result<Option<Snapshot>, Refusal>
     ensures same { told store.new ≡ told store.old }
     ensures clashes { clashes store.new ≡ clashes store.old }
     ensures later { store_faults store.old ≤ store_faults store.new }
     ensures store { result ≡ Err Refusal.Store → Rose (store_faults store.old) (store_faults store.new) }
     ensures taken { (path : List ℕ) → result ≡ Err (Refusal.Taken path) → ⊥ }
-    ensures means { IfSome (told store.old) (λ events. Gives (λ from. from) result (start events limits now)) }
-    ensures small { IfOk result (λ from. from.version < 2 ^ 63) }
+    ensures means { IfSome (told store.old) (λ events. Gives start_of result (start events limits now)) }
+    ensures small { IfOk result (λ snapshot. ForSome snapshot (λ s. s.version + 1 < 2 ^ 63)) }
 {
     match survey(alloc, store) {
         Err(refusal) => Err(refusal),
-        Ok(listing) => start_listed(alloc, store, json, limits, &listing, now),
+        Ok(listing) => open_latest_listed(alloc, store, json, limits, &listing, now),
     }
 }

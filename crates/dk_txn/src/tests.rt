@@ -1,6 +1,7 @@
 //! Commits over stores in memory, as worked examples say.
 
-use crate::commit_now;
+use crate::commit_at_latest;
+use dk_conflicts::Reads;
 use dk_engine::{Limits, Refusal, Which};
 use dk_handlers::SerdeJson;
 use dk_model::{Action, Commit, Text};
@@ -54,9 +55,9 @@ enum End {
     Other,
 }
 
-fn end_of(store: &mut MemStore, alloc: Global, limits: Limits, actions: &[Action]) -> End {
+fn end_of(store: &mut MemStore, alloc: Global, limits: Limits, actions: Commit) -> End {
     let mut json = SerdeJson::new();
-    match commit_now(alloc, store, &mut json, limits, actions, 1000, 32) {
+    match commit_at_latest(alloc, store, &mut json, limits, Reads::Nothing, actions, 1000, 32) {
         Ok(committed) => End::Version(committed.version),
         Err(Refusal::Store) => End::Store,
         Err(Refusal::Unsupported { .. }) => End::Unsupported,
@@ -76,7 +77,7 @@ fn end_of(store: &mut MemStore, alloc: Global, limits: Limits, actions: &[Action
 /// Commits these lines under the usual limits, and tells how it ended.
 fn commit_lines(alloc: Global, store: &mut MemStore, lines: &[&str]) -> Result<End, Fail> {
     let commit = actions_of(alloc, lines)?;
-    Ok(end_of(store, alloc, Limits::usual(), commit.as_slice()))
+    Ok(end_of(store, alloc, Limits::usual(), commit))
 }
 
 /// Whether the object of this path has exactly these lines.
@@ -383,12 +384,13 @@ fn asked_by(alloc: Global, lines: &[&str]) -> Result<Text, Fail> {
     let commit = actions_of(alloc, &[ADD_B])?;
     let mut json = SerdeJson::new();
     let limits = Limits::usual();
-    match commit_now(
+    match commit_at_latest(
         alloc,
         &mut store,
         &mut json,
         limits,
-        commit.as_slice(),
+        Reads::Nothing,
+        commit,
         1000,
         32,
     ) {
@@ -643,7 +645,7 @@ fn a_commit_comes_after_the_latest_version_that_can_be_opened(rt: HostRuntime) -
             line: usual.line,
             lines: usual.lines,
         };
-        let end = end_of(&mut store, alloc, limits, commit.as_slice());
+        let end = end_of(&mut store, alloc, limits, commit);
         assert_eq!(rt; end, case.end, "{name}");
         if !case.path.is_empty() {
             let whole = holds(alloc, &mut store, case.path, &[OWN, ADD_B])?;

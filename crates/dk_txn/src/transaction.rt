@@ -1,13 +1,15 @@
 //! Transactions: what was read of a table, and what is to be committed to it.
-ghost use Rattle.std.specs.Prelude.{◌≡◌, ◌≤◌, ◌<◌, ◌^◌, ◌++◌, ◌∷◌, [], ℕ, List, Ok, Err, Some, None, IfSome, OnOk, OnErr, is_some, option_map, true};
+ghost use Rattle.std.specs.Prelude.{◌≡◌, ◌≤◌, ◌<◌, ◌^◌, ◌++◌, ◌∷◌, [], ℕ, List, Ok, Err, Some, None, IfOk, IfSome, OnOk, OnErr, is_some, option_map, true};
 ghost use Rattle.std.specs.Option.{ForSome};
 ghost use Rattle.dk_store.specs.Causes.{Rose};
 ghost use Rattle.dk_engine.specs.Answers.{Gives};
-ghost use Rattle.dk_txn.specs.Transactions.{Begins, Concludes, Remembers, outcome, start_of, version_meant};
+ghost use Rattle.dk_lawful.specs.Kept.{IfBoth, KeepsLawful};
+ghost use Rattle.dk_txn.specs.Attempt.{own_commit, start, start_of};
+ghost use Rattle.dk_txn.specs.Transactions.{Begins, Comes, Concludes, ConcludesHistory, IsNew, Remembers, outcome, version_meant};
 
 use crate::commit::{Committed, write};
 use crate::prepared::{Prepared, prepare};
-use crate::start::Start;
+use crate::start::{Start, open_latest};
 use dk_conflicts::Reads;
 use dk_engine::{JsonHandler, Limits, Refusal};
 use dk_lawful::Segment;
@@ -78,6 +80,9 @@ fn commit_once(
     ensures clashes_later { clashes store.old ≤ clashes store.new }
     ensures store { result ≡ Err Refusal.Store → Rose (store_faults store.old) (store_faults store.new) }
     ensures taken { (path : List ℕ) → result ≡ Err (Refusal.Taken path) → Rose (clashes store.old) (clashes store.new) }
+    ensures lawful { IfSome (told store.old) (λ events. Comes (outcome events limits transaction.now now) (own_commit transaction.now.id transaction.now.actions.items) events) → KeepsLawful (told store.old) (told store.new) }
+    ensures history { IfSome (told store.old) (λ events. Comes (outcome events limits transaction.now now) (own_commit transaction.now.id transaction.now.actions.items) events)
+        → IfBoth (told store.old) (told store.new) (λ events later. ConcludesHistory (outcome events limits transaction.now now) (own_commit transaction.now.id transaction.now.actions.items) result events later) }
 {
     match prepare(alloc, store, json, limits, transaction, now) {
         Err(refusal) => Err(refusal),
@@ -101,6 +106,9 @@ fn commit_anew(
     ensures clashes_later { clashes store.old ≤ clashes store.new }
     ensures store { result ≡ Err Refusal.Store → Rose (store_faults store.old) (store_faults store.new) }
     ensures taken { (path : List ℕ) → result ≡ Err (Refusal.Taken path) → Rose (clashes store.old) (clashes store.new) }
+    ensures lawful { IfSome (told store.old) (λ events. Comes (outcome events limits transaction.now now) (own_commit transaction.now.id transaction.now.actions.items) events) → KeepsLawful (told store.old) (told store.new) }
+    ensures history { IfSome (told store.old) (λ events. Comes (outcome events limits transaction.now now) (own_commit transaction.now.id transaction.now.actions.items) events)
+        → IfBoth (told store.old) (told store.new) (λ events later. ConcludesHistory (outcome events limits transaction.now now) (own_commit transaction.now.id transaction.now.actions.items) result events later) }
 {
     match commit_once(alloc, store, json, limits, transaction, now) {
         Err(Refusal::Taken { .. }) => commit_once(alloc, store, json, limits, transaction, now),
@@ -124,6 +132,32 @@ impl Transaction {
             id,
             actions: Vec::new(alloc),
             committed: None,
+        }
+    }
+
+    /// A transaction that begins at the latest version, or before all of an empty log, has read so much of it and commits nothing
+    /// yet. The log, its staged commits and the catalogue are listed once each, and what the version is read from is read
+    /// once. It is refused as [`dk_snapshot::open_at`] is, and by `Limit` of `Version` where no version can follow.
+    pub fn begin_latest(
+        alloc: Global,
+        store: &mut dyn Store,
+        json: &mut dyn JsonHandler,
+        limits: Limits,
+        reads: Reads,
+        now: i64,
+        id: u128,
+    ) -> Result<Transaction, Refusal>
+        ensures same { told store.new ≡ told store.old }
+        ensures clashes { clashes store.new ≡ clashes store.old }
+        ensures later { store_faults store.old ≤ store_faults store.new }
+        ensures store { result ≡ Err Refusal.Store → Rose (store_faults store.old) (store_faults store.new) }
+        ensures taken { (path : List ℕ) → result ≡ Err (Refusal.Taken path) → ⊥ }
+        ensures means { IfSome (told store.old) (λ events. Gives (λ t. t.from) result (start events limits now)) }
+        ensures new { IfOk result (IsNew reads id) }
+    {
+        match open_latest(alloc, store, json, limits, now) {
+            Err(refusal) => Err(refusal),
+            Ok(snapshot) => Ok(Transaction::begin(alloc, snapshot, reads, id)),
         }
     }
 
@@ -200,6 +234,10 @@ impl Transaction {
         ensures clashes_later { clashes store.old ≤ clashes store.new }
         ensures store { result ≡ Err Refusal.Store → Rose (store_faults store.old) (store_faults store.new) }
         ensures taken { (path : List ℕ) → result ≡ Err (Refusal.Taken path) → Rose (clashes store.old) (clashes store.new) }
+        ensures lawful { self.old.committed ≡ None → IfSome (told store.old) (λ events. Comes (outcome events limits self.old now) (own_commit self.old.id self.old.actions.items) events)
+            → KeepsLawful (told store.old) (told store.new) }
+        ensures history { self.old.committed ≡ None → IfSome (told store.old) (λ events. Comes (outcome events limits self.old now) (own_commit self.old.id self.old.actions.items) events)
+            → IfBoth (told store.old) (told store.new) (λ events later. ConcludesHistory (outcome events limits self.old now) (own_commit self.old.id self.old.actions.items) result events later) }
     {
         if let Some(version) = self.committed {
             return Ok(Committed { version });

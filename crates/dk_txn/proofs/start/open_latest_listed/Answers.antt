@@ -1,11 +1,14 @@
 use Rattle.std.proofs.lemmas.Int.{to_z-of_z}
 use mir.Syntax.{w64}
-use Rattle.std.proofs.Common.{rules}
+use Rattle.std.proofs.Common.{rules, refl}
+use Rattle.dk_model.specs.State.{empty_state}
+use Rattle.dk_txn.specs.Attempt.{start_of}
+use Rattle.std.specs.Prelude.{Some}
 use Rattle.dk_txn.proofs.Starts.{start_none, start_last, start_refused, start_opened}
-use Rattle.dk_txn.proofs.start.start_listed.Goals as goal
+use Rattle.dk_txn.proofs.start.open_latest_listed.Goals as goal
 
 pub returns-in_default-clause-means : goal.returns-in_default-clause-means
-returns-in_default-clause-means g c = start_none c.args.limits c.args.now c.args.listing.now c.latest.result c.latest.ensures.value _ c.new.result (search rules) c.new.ensures
+returns-in_default-clause-means g c = start_none c.args.limits c.args.now c.args.listing.now c.latest.result c.latest.ensures.value _ empty_state (search rules) refl
 
 pub returns-then-latest-eq-MAX_VERSION-clause-means : goal.returns-then-latest-eq-MAX_VERSION-clause-means
 returns-then-latest-eq-MAX_VERSION-clause-means g c = start_last c.args.limits c.args.now c.args.listing.now c.latest.result c.latest.ensures.value _ c.in-Some.latest c.in-Some.is (search rules)
@@ -15,5 +18,5 @@ returns-in-Err-clause-means g c = start_refused c.args.limits c.args.now c.args.
     (to_z-of_z w64 c.args.now c.ranges.now) c.in-Some.is (search rules) c.in-Err.ensures.means
 
 pub returns-in-Ok-clause-means : goal.returns-in-Ok-clause-means
-returns-in-Ok-clause-means g c = start_opened c.args.limits c.args.now c.args.listing.now c.latest.result c.latest.ensures.value _ c.usual_choice-choice.result _ c.in-Some.latest c.in-Ok.snapshot c.after.result c.usual_choice-choice.ensures
-    (to_z-of_z w64 c.args.now c.ranges.now) c.in-Some.is (search rules) c.after.ensures.version c.after.ensures.before c.in-Ok.ensures.means
+returns-in-Ok-clause-means g c = start_opened c.args.limits c.args.now c.args.listing.now c.latest.result c.latest.ensures.value _ c.usual_choice-choice.result _ c.in-Some.latest c.in-Ok.snapshot (start_of (Some c.in-Ok.snapshot)) c.usual_choice-choice.ensures
+    (to_z-of_z w64 c.args.now c.ranges.now) c.in-Some.is (search rules) refl refl c.in-Ok.ensures.means

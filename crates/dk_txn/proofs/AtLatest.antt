@@ -1,0 +1,181 @@
+-- What a commit of a transaction comes to that began at the latest version, where nothing came since.
+use Rattle.std.proofs.Common.{◌≡◌, ℕ, ℤ, ◌+◌, ◌<◌, ◌≤◌, ◌^◌, Bool, true, false, List, [], length, max, nat_lt, refl, ap, ap₂, sym, subst, ◌∙◌, arith, if◌then◌else◌}
+use Rattle.std.specs.Prelude.{Option, Some, None, Result, Ok, Err, IfSome, ◌==◌}
+use Rattle.dk_store.specs.Told.{Told}
+use Rattle.dk_store.specs.Standings.{standing}
+use Rattle.dk_model.specs.declared.action.Action.{Action}
+use Rattle.dk_model.specs.declared.action.Protocol.{Protocol}
+use Rattle.dk_model.specs.declared.action.Metadata.{Metadata}
+use Rattle.dk_model.specs.declared.action.AddFile.{AddFile}
+use Rattle.dk_model.specs.declared.state.TableState.{TableState}
+use Rattle.dk_model.specs.Texts.{ByText}
+use Rattle.dk_model.specs.State.{fold}
+use Rattle.dk_engine.specs.declared.limits.Limits.{Limits}
+use Rattle.dk_engine.specs.declared.limits.Which.TheVariants as which
+use Rattle.dk_engine.specs.declared.refusal.Refusal.{Refusal}
+use Rattle.dk_engine.specs.declared.refusal.Refusal.TheVariants as refusals
+use Rattle.dk_lawful.specs.declared.segment.Segment.{Segment}
+use Rattle.dk_lawful.specs.Kept.{IfBoth, KeepsLawful}
+use Rattle.dk_listing.specs.OfEvents.{stands_at, latest}
+use Rattle.dk_segment.specs.Chosen.{chosen}
+use Rattle.dk_snapshot.specs.declared.table.Snapshot.{Snapshot}
+use Rattle.dk_snapshot.specs.Opening.{usual_choice, opened, opened_chosen, snapshot_with, state_of, with_cut}
+use Rattle.dk_snapshot.specs.Steps.{commits_of, fits, oldest_path}
+use Rattle.dk_snapshot.specs.Support.{cut_of, cut_with}
+use Rattle.dk_txn.specs.declared.commit.Committed.{Committed}
+use Rattle.dk_txn.specs.declared.start.Start.{Start}
+use Rattle.dk_txn.specs.declared.transaction.Transaction.{Transaction}
+use Rattle.dk_txn.specs.Attempt.{last_version, after_snapshot, start_after, start, own_commit, commit_text, allowed, Writing, if_allowed, if_within, attempt_from, attempt}
+use Rattle.dk_txn.specs.Commits.{Commits, SaysHistory}
+use Rattle.dk_txn.specs.Transactions.{Outcome, After, Reached, if_headed, headed, oldest_of, and_also, rules_keep, may_come, to_write, outcome_after, outcome_at, reached_at, next_after, outcome, Concludes, Comes, ConcludesHistory}
+use Rattle.dk_txn.proofs.Next.{attempt_next, within_is}
+use Rattle.dk_txn.proofs.Preparing.{none_reached, other_if}
+use Rattle.dk_txn.proofs.ReadHistory.{opened_reads}
+
+-- ---- a table that was opened has begun
+
+cut_headed : (oldest path : List ℕ) (protocol : Option Protocol) (metadata : Option Metadata) (files : ByText AddFile) (now cut : ℤ) → cut_with oldest protocol metadata files now ≡ Ok cut
+    → if_headed path protocol metadata ≡ Ok tt
+cut_headed oldest path (Some protocol) (Some metadata) files now cut is = refl
+cut_headed oldest path (Some protocol) None files now cut is = absurd (let no : ◌≡◌ {A = Result ℤ Refusal} (Err (refusals.Damaged oldest 0)) (Ok cut) = is in cc)
+cut_headed oldest path None metadata files now cut is = absurd (let no : ◌≡◌ {A = Result ℤ Refusal} (Err (refusals.Damaged oldest 0)) (Ok cut) = is in cc)
+
+module _ (events : List Told) (limits : Limits) (now : ℤ) (last : ℕ) (snapshot : Snapshot) (path : List ℕ) where
+  abbrev IsHeaded : Type 0
+  IsHeaded = if_headed path snapshot.state.protocol snapshot.state.metadata ≡ Ok tt
+
+  cut_is : (segment : Segment) (state : TableState) (cut : Result ℤ Refusal) → cut_of (oldest_path segment.steps) state now ≡ cut → snapshot_with last segment (with_cut state cut) ≡ Ok snapshot → IsHeaded
+  cut_is segment state (Err refusal) is opens = absurd (let no : ◌≡◌ {A = Result Snapshot Refusal} (Err refusal) (Ok snapshot) = opens in cc)
+  cut_is segment state (Ok cut) is opens =
+      let same : ◌≡◌ {A = Result Snapshot Refusal} (Ok (record { version = last; state = state; cut = cut; segment = segment })) (Ok snapshot) = opens in
+      let at : state ≡ snapshot.state = cc in
+      subst (λ (s : TableState). if_headed path s.protocol s.metadata ≡ Ok tt) at (cut_headed (oldest_path segment.steps) path state.protocol state.metadata state.files now cut is)
+
+  commits_are : (segment : Segment) (commits : Result (List (List Action)) Refusal) → snapshot_with last segment (state_of (oldest_path segment.steps) now commits) ≡ Ok snapshot → IsHeaded
+  commits_are segment (Err refusal) opens = absurd (let no : ◌≡◌ {A = Result Snapshot Refusal} (Err refusal) (Ok snapshot) = opens in cc)
+  commits_are segment (Ok commits) opens = cut_is segment (fold commits) (cut_of (oldest_path segment.steps) (fold commits) now) refl opens
+
+  segment_is : (found : Result Segment Refusal) → opened_chosen events limits now last found ≡ Ok snapshot → IsHeaded
+  segment_is (Err refusal) opens = absurd (let no : ◌≡◌ {A = Result Snapshot Refusal} (Err refusal) (Ok snapshot) = opens in cc)
+  segment_is (Ok segment) opens = commits_are segment (commits_of events limits.object segment.steps) opens
+
+  opened_headed : latest events ≡ Some last → opened events limits None usual_choice now ≡ Ok snapshot → IsHeaded
+  opened_headed top opens = segment_is (chosen (stands_at events) (standing events) last usual_choice) (rw top at opens)
+
+-- ---- it comes where it began
+
+-- the version that comes next is the one after the latest, and the table there has begun if there was any
+record IsAtLatest (events : List Told) (from : Start) : Type 0 where
+  next : next_after from.version (latest events) ≡ from.version
+  heads : (path : List ℕ) → headed path from ≡ Ok tt
+
+at_once : (test : Bool) (heads : Result (Unit {0}) Refusal) → heads ≡ Ok tt → (if test then Ok tt else heads) ≡ Ok tt
+at_once true heads is = refl
+at_once false heads is = is
+
+started_at : (events : List Told) (limits : Limits) (now : ℤ) (from : Start) → start events limits now ≡ Ok from → IsAtLatest events from
+started_at events limits now from is = by (latest events) refl is
+  where
+    after : (last : ℕ) (found : Result Snapshot Refusal) → latest events ≡ Some last → opened events limits None usual_choice now ≡ found → after_snapshot found ≡ Ok from → IsAtLatest events from
+    after last (Err refusal) top opens starts = absurd (let no : ◌≡◌ {A = Result Start Refusal} (Err refusal) (Ok from) = starts in cc)
+    after last (Ok snapshot) top opens starts =
+        let same : ◌≡◌ {A = Result Start Refusal} (Ok (record { version = snapshot.version + 1; before = snapshot.state })) (Ok from) = starts in
+        let version : snapshot.version + 1 ≡ from.version = cc in
+        let state : snapshot.state ≡ from.before = cc in
+        let found = (opened_reads events limits now last snapshot top opens).version in
+        let value : last + 1 ≡ from.version = omega (arith, version, found) in
+        record {
+          next = ap (next_after from.version) top ∙ omega (arith, value);
+          heads = λ path. at_once (from.version == 0) (if_headed path from.before.protocol from.before.metadata)
+              (subst (λ (s : TableState). if_headed path s.protocol s.metadata ≡ Ok tt) state (opened_headed events limits now last snapshot path top opens));
+        }
+
+    at_last : (last : ℕ) (test : Bool) → latest events ≡ Some last → (if test then Err (refusals.Limit which.Version last_version) else after_snapshot (opened events limits None usual_choice now)) ≡ Ok from → IsAtLatest events from
+    at_last last true top starts = absurd (let no : ◌≡◌ {A = Result Start Refusal} (Err (refusals.Limit which.Version last_version)) (Ok from) = starts in cc)
+    at_last last false top starts = after last (opened events limits None usual_choice now) top refl starts
+
+    by : (last : Option ℕ) → latest events ≡ last → start_after events limits now last ≡ Ok from → IsAtLatest events from
+    by None top starts =
+        let same : ◌≡◌ {A = Result Start Refusal} (Ok (record { version = 0; before = _ })) (Ok from) = starts in
+        let version : 0 ≡ from.version = cc in
+        record {
+          next = ap (next_after from.version) top;
+          heads = λ path. subst (λ (v : ℕ). (if v == 0 then Ok tt else if_headed path from.before.protocol from.before.metadata) ≡ Ok tt) version refl;
+        }
+    by (Some last) top starts = at_last last (last == last_version) top starts
+
+only_rules : (rules : Result (Unit {0}) Refusal) → and_also rules (Ok tt) ≡ rules
+only_rules (Ok u) = refl
+only_rules (Err refusal) = refl
+
+-- nothing came since, so what it comes to is the plain attempt
+pub at_latest : (events : List Told) (limits : Limits) (t : Transaction) (now : ℤ) → start events limits now ≡ Ok t.from → t.from.version < 2 ^ 63
+    → outcome events limits t now ≡ to_write (attempt events limits t.actions.items now t.id)
+at_latest events limits t now starts small =
+    let at = started_at events limits now t.from starts in
+    let fits : nat_lt last_version t.from.version ≡ false = omega (arith, small) in
+    let may : may_come t t.from None ≡ allowed t.from t.actions.items t.id =
+    ap (λ (heads : Result (Unit {0}) Refusal). and_also heads (rules_keep t t.from None)) (at.heads (oldest_of t.segment)) ∙ only_rules (allowed t.from t.actions.items t.id) in
+    ap (outcome_at events limits t now) at.next
+    ∙ other_if (nat_lt last_version t.from.version) (Err (refusals.Limit which.Version last_version)) (outcome_after t limits now t.from.version (reached_at events limits t t.from.version)) fits
+    ∙ ap (outcome_after t limits now t.from.version) (none_reached events limits t t.from.version refl)
+    ∙ ap (λ (m : Result (Unit {0}) Refusal). to_write (if_allowed m (if_within limits.object (t.from.version, commit_text t.id now t.actions.items)))) may
+    ∙ ap (λ (s : Result Start Refusal). to_write (attempted s)) (sym starts)
+  where
+    attempted : Result Start Refusal → Result Writing Refusal
+    attempted s = attempt_from s limits t.actions.items now t.id
+
+-- ---- what a commit of it did
+
+module _ (limits : Limits) (now passed : ℤ) (t : Transaction) (own : List Action) (id : ℕ) (moment : passed ≡ now) (own_is : t.actions.items ≡ own) (id_is : t.id ≡ id) where
+  abbrev Begun : Option (List Told) → Type 0
+  Begun told = IfSome told (λ events. start events limits now ≡ Ok t.from)
+
+  comes_to : (events : List Told) → start events limits now ≡ Ok t.from → t.from.version < 2 ^ 63 → outcome events limits t passed ≡ to_write (attempt events limits own now id)
+  comes_to events starts small =
+      ap (λ (n : ℤ). outcome events limits t n) moment ∙ at_latest events limits t now starts small
+      ∙ ap₂ (λ (o : List Action) (i : ℕ). to_write (attempt events limits o now i)) own_is id_is
+
+  concludes : (meant : Result Writing Refusal) (events : List Told) (result : Result Committed Refusal) (later : Option (List Told)) → Concludes (to_write meant) events result later → Commits meant events result later
+  concludes (Ok writing) events result later did = did
+  concludes (Err refusal) events result later did = did
+
+  pub begun_commits : (told later : Option (List Told)) (result : Result Committed Refusal) → t.from.version < 2 ^ 63 → IfSome told (λ events. Concludes (outcome events limits t passed) events result later)
+      → IfSome told (λ events. start events limits now ≡ Ok t.from → Commits (attempt events limits own now id) events result later)
+  begun_commits None later result small did = tt
+  begun_commits (Some events) later result small did = λ starts.
+      concludes (attempt events limits own now id) events result later (subst (λ (meant : Result Outcome Refusal). Concludes meant events result later) (comes_to events starts small) did)
+
+  -- what it was to write may come next
+  version_is : (may : Result (Unit {0}) Refusal) (text : List ℕ) (version : ℕ) (writing : Writing) → if_allowed may (if_within limits.object (version, text)) ≡ Ok writing → writing.0 ≡ version
+  version_is (Err refusal) text version writing is = absurd (let no : ◌≡◌ {A = Result Writing Refusal} (Err refusal) (Ok writing) = is in cc)
+  version_is (Ok u) text version writing is = sym (ap (λ (w : Writing). w.0) (within_is (fits limits.object (Some (length text))) (version, text) writing is))
+
+  comes : (events : List Told) → start events limits now ≡ Ok t.from → t.from.version < 2 ^ 63 → (meant : Result Writing Refusal) → attempt events limits own now id ≡ meant → Comes (to_write meant) (own_commit id own) events
+  comes events starts small (Err refusal) is = tt
+  comes events starts small (Ok writing) is =
+      let from : if_allowed (allowed t.from own id) (if_within limits.object (t.from.version, commit_text id now own)) ≡ Ok writing =
+      ap (λ (s : Result Start Refusal). attempt_from s limits own now id) (sym starts) ∙ is in
+      let at = version_is (allowed t.from own id) (commit_text id now own) t.from.version writing from in
+      (attempt_next events limits own now id writing (subst (λ (v : ℕ). v < 2 ^ 63) (sym at) small) is).comes
+
+  pub begun_comes : (told : Option (List Told)) → t.from.version < 2 ^ 63 → Begun told → IfSome told (λ events. Comes (outcome events limits t passed) (own_commit t.id t.actions.items) events)
+  begun_comes None small begun = tt
+  begun_comes (Some events) small begun =
+      subst (λ (meant : Result Outcome Refusal). Comes meant (own_commit t.id t.actions.items) events) (sym (comes_to events begun small))
+      (subst (λ (commit : List Action). Comes (to_write (attempt events limits own now id)) commit events) (sym (ap₂ own_commit id_is own_is)) (comes events begun small (attempt events limits own now id) refl))
+
+  says : (meant : Result Writing Refusal) (commit : List Action) (events later : List Told) (result : Result Committed Refusal) → ConcludesHistory (to_write meant) commit result events later → SaysHistory commit result events later
+  says (Ok writing) commit events later result said = said
+  says (Err refusal) commit events later result said = said
+
+  pub begun_says : (told later : Option (List Told)) (result : Result Committed Refusal) → t.from.version < 2 ^ 63 → Begun told
+      → IfBoth told later (λ events after. ConcludesHistory (outcome events limits t passed) (own_commit t.id t.actions.items) result events after)
+      → IfBoth told later (SaysHistory (own_commit id own) result)
+  begun_says None None result small begun said = tt
+  begun_says None (Some later) result small begun said = absurd said
+  begun_says (Some events) None result small begun said = absurd said
+  begun_says (Some events) (Some later) result small begun said =
+      says (attempt events limits own now id) (own_commit id own) events later result
+      (subst (λ (commit : List Action). ConcludesHistory (to_write (attempt events limits own now id)) commit result events later) (ap₂ own_commit id_is own_is)
+      (subst (λ (meant : Result Outcome Refusal). ConcludesHistory meant (own_commit t.id t.actions.items) result events later) (comes_to events begun small) said))

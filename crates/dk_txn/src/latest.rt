@@ -1,0 +1,93 @@
+//! A commit that begins at the latest version.
+ghost use Rattle.std.specs.Prelude.{◌≡◌, ◌≤◌, ◌<◌, ◌^◌, ◌++◌, [], ℕ, List, Ok, Err, None, IfSome, OnOk, is_some};
+ghost use Rattle.dk_store.specs.Causes.{Rose};
+ghost use Rattle.dk_lawful.specs.Kept.{IfBoth, KeepsLawful};
+ghost use Rattle.dk_txn.specs.Attempt.{attempt, own_commit, start};
+ghost use Rattle.dk_txn.specs.Commits.{Commits, SaysHistory};
+
+use crate::commit::Committed;
+use crate::transaction::Transaction;
+use dk_conflicts::Reads;
+use dk_engine::{JsonHandler, Limits, Refusal};
+use dk_model::{Action, Commit};
+use dk_store::Store;
+use std::alloc::{AllocError, Global};
+
+/// Lays actions behind those that are to be committed.
+fn put_all(transaction: &mut Transaction, actions: Vec<Action>) -> Result<(), AllocError>
+    ensures ok { OnOk result (transaction.new.actions.items ≡ transaction.old.actions.items ++ actions.items) }
+    ensures same { transaction.new ≡ record transaction.old { actions = transaction.new.actions } }
+{
+    for action in actions {
+        transaction.put(action)?;
+    }
+    Ok(())
+}
+
+/// Commits these actions as a transaction that commits nothing else yet.
+fn commit_begun(
+    alloc: Global,
+    store: &mut dyn Store,
+    json: &mut dyn JsonHandler,
+    limits: Limits,
+    begun: Transaction,
+    actions: Commit,
+    now: i64,
+) -> Result<Committed, Refusal>
+    requires empty { begun.actions.items ≡ [] }
+    requires fresh { begun.committed ≡ None }
+    requires small { begun.from.version < 2 ^ 63 }
+    ensures commits { IfSome (told store.old) (λ events. start events limits now ≡ Ok begun.from → Commits (attempt events limits actions now begun.id) events result (told store.new)) }
+    ensures alike { is_some (told store.new) ≡ is_some (told store.old) }
+    ensures later { store_faults store.old ≤ store_faults store.new }
+    ensures clashes_later { clashes store.old ≤ clashes store.new }
+    ensures store { result ≡ Err Refusal.Store → Rose (store_faults store.old) (store_faults store.new) }
+    ensures taken { (path : List ℕ) → result ≡ Err (Refusal.Taken path) → Rose (clashes store.old) (clashes store.new) }
+    ensures lawful { IfSome (told store.old) (λ events. start events limits now ≡ Ok begun.from) → KeepsLawful (told store.old) (told store.new) }
+    ensures history { IfSome (told store.old) (λ events. start events limits now ≡ Ok begun.from)
+        → IfBoth (told store.old) (told store.new) (SaysHistory (own_commit begun.id actions) result) }
+{
+    let mut transaction = begun;
+    put_all(&mut transaction, actions.into_vec())?;
+    transaction.commit(alloc, store, json, limits, now)
+}
+
+/// Commits actions as the next version of the table, or as its version 0 (Delta Lake's PROTOCOL.md, "Delta Log Entries"), by a
+/// transaction that begins at the latest version and has read so much of it.
+///
+/// `now` is the moment of the call in milliseconds since 1970-01-01T00:00:00Z, and `id` the id of the transaction, which
+/// the commit's first line has in lower case with hyphens.
+///
+/// `commits` says which event is added, and exactly when each refusal comes, where nobody else comes in between, as is known
+/// over a store that tells its events; `lawful` and `history` say the same in the subject's own words: the log stays
+/// lawful, and has this commit more, at the answered version. Beside faults of the store and want of memory these refusals
+/// add nothing, in this order: `Limit` of `Version` where no version can follow, those of opening the latest version, as
+/// [`dk_snapshot::open_at`] names them, `Unsupported` where the table asks for what isn't written, `Invalid` where a rule is
+/// broken, `Limit` of `Object` where the text is greater than `limits.object` bytes; and of commits that came in between
+/// `WinnersGone`, `Damaged`, `Limit` of `Object`, `Conflict` and `Taken`, as [`Transaction::commit`] says.
+pub fn commit_at_latest(
+    alloc: Global,
+    store: &mut dyn Store,
+    json: &mut dyn JsonHandler,
+    limits: Limits,
+    reads: Reads,
+    actions: Commit,
+    now: i64,
+    id: u128,
+) -> Result<Committed, Refusal>
+    ensures commits { IfSome (told store.old) (λ events. Commits (attempt events limits actions now id) events result (told store.new)) }
+    ensures alike { is_some (told store.new) ≡ is_some (told store.old) }
+    ensures later { store_faults store.old ≤ store_faults store.new }
+    ensures clashes_later { clashes store.old ≤ clashes store.new }
+    ensures store { result ≡ Err Refusal.Store → Rose (store_faults store.old) (store_faults store.new) }
+    ensures taken { (path : List ℕ) → result ≡ Err (Refusal.Taken path) → Rose (clashes store.old) (clashes store.new) }
+
+    // In the subject's own words.
+    ensures lawful { KeepsLawful (told store.old) (told store.new) }
+    ensures history { IfBoth (told store.old) (told store.new) (SaysHistory (own_commit id actions) result) }
+{
+    match Transaction::begin_latest(alloc, store, json, limits, reads, now, id) {
+        Err(refusal) => Err(refusal),
+        Ok(begun) => commit_begun(alloc, store, json, limits, begun, actions, now),
+    }
+}
