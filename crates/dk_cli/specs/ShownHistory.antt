@@ -77,7 +77,7 @@ HasNoText events limits at now _ = ⊥
 -- ---- the answer
 
 -- With Done the sink took the text, with SinkFault a beginning of it; with a refusal there is none, and nothing was written. A text and the causes of
--- refusals exclude each other, so that, but for a fault of the store and want of memory, each status comes exactly where its case holds.
+-- refusals exclude each other, so that, but for a fault of the store or the sink and want of memory, each status comes exactly where its case holds.
 abbrev pub AnswersShown : List Told → Limits → Option ℕ → ℤ → Option (List ℕ) → Status → Option (List ℕ) → Type 0
 AnswersShown events limits at now old statuses.Done new = (text : List ℕ) × HasText events limits at now text × (new ≡ more old text)
 AnswersShown events limits at now old statuses.SinkFault new = (text : List ℕ) × (count : ℕ) × HasText events limits at now text × (new ≡ more old (take count text))
