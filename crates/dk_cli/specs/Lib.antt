@@ -4,6 +4,7 @@ pub mod Words
 pub mod Run
 pub mod Show
 pub mod Shown
+pub mod ShownHistory
 pub mod Status
 pub mod Input
 pub mod Seen

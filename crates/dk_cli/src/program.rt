@@ -10,6 +10,7 @@ ghost use Rattle.dk_cli.specs.Commit.{CommitAnswers, InputSays};
 ghost use Rattle.dk_cli.specs.Show.{show};
 ghost use Rattle.dk_cli.specs.Run.{AsksShow, IsCommit, IsNoCommand, Answers, IsUnwritten};
 ghost use Rattle.dk_cli.specs.History.{ShowsLog};
+ghost use Rattle.dk_cli.specs.ShownHistory.{ShowsHistory};
 
 use crate::commit::commit_command;
 use crate::show::show_text;
@@ -59,10 +60,13 @@ fn show_command<O: Sink>(
 /// `whole_log` is the promise on `show` in the subject's own words: over a log of commit files 0 to n, where nothing stands
 /// ratified, no checkpoint is listed and no commit is over the limit of objects, and whose version at hand is one that is
 /// read, the sink took exactly the text of that version as the fold of the commits up to it gives it. `show` says the
-/// same of every log, and with it exactly when each refusal comes. `commit` says which one event a commit adds, and exactly
-/// when each refusal comes. `lawful` is the promise on the log: whatever the command and its end, what was lawful stays so.
-/// `history` is the promise on `commit` in the subject's own words: with Done the history of a lawful log has exactly this
-/// commit more, at the version that was answered.
+/// same of every log, and with it exactly when each refusal comes. `shows_history` says it of each lawful log by its history:
+/// what is shown is the asked version of the history, or its last one, with exactly the state that the history's commits up to
+/// it lead to; and a refusal says that a commit which the version needs is missing, that the version is above the last one,
+/// that an object is over the limit, or what the table asks for that isn't read, and so is never `Damaged`. `commit` says
+/// which one event a commit adds, and exactly when each refusal comes. `lawful` is the promise on the log: whatever the
+/// command and its end, what was lawful stays so. `history` is the promise on `commit` in the subject's own words: with Done
+/// the history of a lawful log has exactly this commit more, at the version that was answered.
 pub fn run<I: Source, O: Sink>(
     alloc: Global,
     words: &[String],
@@ -82,6 +86,8 @@ pub fn run<I: Source, O: Sink>(
         (λ events. Answers (show events engine.old.limits at now) (O.taken out.old) result (O.taken out.new)) }
     ensures whole_log { (at : Option ℕ) → AsksShow words.now at → IfSome (told (held engine.old.store))
         (λ events. ShowsLog events engine.old.limits at now (O.taken out.old) result (O.taken out.new)) }
+    ensures shows_history { (at : Option ℕ) → AsksShow words.now at → IfSome (told (held engine.old.store))
+        (λ events. ShowsHistory events engine.old.limits at now (O.taken out.old) result (O.taken out.new)) }
     ensures commit { IsCommit words.now → IfSome (told (held engine.old.store)) (λ events. IfSome (I.left input.old) (λ left.
         CommitAnswers (actions_of engine.old.limits left) (λ actions. attempt events engine.old.limits actions now base) events (O.taken out.old) result (O.taken out.new) (told (held engine.new.store)))) }
     ensures lawful { KeepsLawful (told (held engine.old.store)) (told (held engine.new.store)) }
