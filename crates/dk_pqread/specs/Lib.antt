@@ -5,9 +5,11 @@ pub mod Examining
 pub mod Faults
 pub mod Gives
 pub mod Inner
-pub mod LeafView
 pub mod Laws
 pub mod Lays
+pub mod LeafView
+pub mod Meanings
+pub mod PageMeaning
 pub mod PlanView
 pub mod Scans
 pub mod Values

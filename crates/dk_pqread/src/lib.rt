@@ -10,9 +10,13 @@ pub mod laws;
 mod lay;
 mod leaf;
 mod names;
+mod page;
 mod plain;
 mod plan;
+mod runs;
 mod scan;
 #[cfg(test)]
 mod tests;
 mod tree;
+mod values;
+mod zip;
