@@ -1,7 +1,6 @@
 -- Each number of a list turned into a value, one after another.
 use Rattle.std.proofs.Common.{◌≡◌, ℕ, zero, suc, ◌+◌, ◌<◌, ◌≤◌, Option, Some, None, slice_get, map, List, [], ◌∷◌, ◌++◌, length, get_or, drop, drop-cons, add-one, refl, sym, ap, ◌∙◌, append_assoc, arith}
 use Rattle.std.specs.Option.{option_map}
-use Rattle.std.proofs.lemmas.List.{append-nil, drop_all}
 use Rattle.dk_pqmodel.specs.Datum.{Value}
 use Rattle.dk_pqmodel.specs.declared.columns.Value as code
 use Rattle.dk_pqmodel.specs.Footer.{each_of}
@@ -24,11 +23,6 @@ module _ (f : ℕ → Option Value) (numbers : List ℕ) (i : ℕ) (done : List 
 
   pub each_missing : f (get_or numbers i 0) ≡ None → whole ≡ None
   each_missing e = sym (rw e at opened)
-
-pub each_done : (f : ℕ → Option Value) (numbers : List ℕ) (i : ℕ) (done : List Value) (whole : Option (List Value)) → length numbers ≤ i → each_then done (each_of f (drop i numbers)) ≡ whole → whole ≡ Some done
-each_done f numbers i done whole h left =
-    let e : Some (done ++ []) ≡ whole = rw (drop_all i numbers h) at left in
-    sym e ∙ ap Some (append-nil done)
 
 -- ---- entries at places
 

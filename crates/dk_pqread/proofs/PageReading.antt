@@ -1,5 +1,5 @@
 -- A data page is what its parts hold, where its header is one of a data page and its levels are in runs.
-use Rattle.std.proofs.Common.{◌≡◌, Bool, true, false, Option, Some, None, Result, ℤ, List, Bor, map, sym, subst, ◌∙◌}
+use Rattle.std.proofs.Common.{◌≡◌, true, Option, Some, Result, ℤ, List, Bor, map, sym, subst, ◌∙◌}
 use Rattle.std.specs.Option.{option_map}
 use Rattle.dk_pqmodel.specs.ColumnView.{value_of}
 use Rattle.dk_pqmodel.specs.Datum.{Value, Column}
@@ -12,26 +12,11 @@ use Rattle.dk_pqread.specs.Meanings.{Finds}
 use Rattle.dk_pqread.specs.PageMeaning.{PageHolds, PartsHold, AddsTriples, is_data}
 use Rattle.dk_pqread.specs.Scans.{is_level_code}
 use Rattle.dk_pqread.proofs.Finding.{finds_as}
-use Rattle.dk_pqread.proofs.PartLaws.{none_is_not_some, some_is}
-
-true_is_not : (b : Bool) → b ≡ false → b ≡ true → ⊥
-true_is_not b e f = (let never : false ≡ true = sym e ∙ f in cc)
+use Rattle.dk_pqread.proofs.PartLaws.{some_is}
 
 module _ (column : ColumnAt) (dictionary : Option (List Value)) (page : Page) (before : Column) where
   abbrev Added : Column → Type 0
   Added = AddsTriples before (PageHolds column dictionary page)
-
-  pub no_data : is_data page.kind ≡ false → (after : Column) → Added after → ⊥
-  no_data is after n = true_is_not (is_data page.kind) is n.2.kind
-
-  pub other_rep_code : is_level_code column.rep page.rep_code ≡ false → (after : Column) → Added after → ⊥
-  other_rep_code is after n = true_is_not (is_level_code column.rep page.rep_code) is n.2.rep_code
-
-  pub other_def_code : is_level_code column.def page.def_code ≡ false → (after : Column) → Added after → ⊥
-  other_def_code is after n = true_is_not (is_level_code column.def page.def_code) is n.2.def_code
-
-  pub no_parts : split_of column.rep column.def page ≡ None → (after : Column) → Added after → ⊥
-  no_parts none after n = none_is_not_some n.2.parts (sym none ∙ n.2.split)
 
   pub page_by_parts : {X : Type 0} (view : X → Column) (result : Result X PqFault) (parts : Parts) (code : ℤ) → code ≡ page.encoding → is_data page.kind ≡ true → is_level_code column.rep page.rep_code ≡ true
       → is_level_code column.def page.def_code ≡ true → split_of column.rep column.def page ≡ Some parts → Finds view result (AddsTriples before (PartsHold column dictionary code page.values parts))

@@ -28,14 +28,6 @@ module _ (column : ColumnAt) (dictionary : Option (List Value)) (code : ℤ) (co
   defs_of : (ts : Column) → Held ts → AreLevelsOf column.def count parts.def (map (λ e. e.definition) ts)
   defs_of ts h = (length-map ts (λ e. e.definition) ∙ h.count, h.held.definitions)
 
-  pub reps_refused : (before : Column) (fault : PqFault) → Refuses fault (AreLevelsOf column.rep count parts.rep) → Refuses fault (AddsTriples before Held)
-  reps_refused before fault h =
-      refuses_by fault (AreLevelsOf column.rep count parts.rep) (AddsTriples before Held) (λ y n. (map (λ (e : Entry). e.repetition) n.0, reps_of n.0 n.2)) h
-
-  pub defs_refused : (before : Column) (fault : PqFault) → Refuses fault (AreLevelsOf column.def count parts.def) → Refuses fault (AddsTriples before Held)
-  defs_refused before fault h =
-      refuses_by fault (AreLevelsOf column.def count parts.def) (AddsTriples before Held) (λ y n. (map (λ (e : Entry). e.definition) n.0, defs_of n.0 n.2)) h
-
   module _ (ds : List ℕ) (defs : AreLevelsOf column.def count parts.def ds) where
     same_defs : (ts : Column) → Held ts → map (λ e. e.definition) ts ≡ ds
     same_defs ts h = (

@@ -1,6 +1,6 @@
 -- Runs and levels are found, and only they.
-use Rattle.std.proofs.Common.{◌≡◌, ℕ, inl, List, take, drop, replicate, sym, ap, arith}
-use Rattle.std.proofs.lemmas.List.{take-append-drop, length-replicate}
+use Rattle.std.proofs.Common.{◌≡◌, ℕ, List, take, drop, sym, arith}
+use Rattle.std.proofs.lemmas.List.{take-append-drop}
 use Rattle.dk_grammar.specs.Runs.{AreFirst}
 use Rattle.dk_pqmodel.specs.FilePages.{IsWidth}
 use Rattle.dk_pqmodel.specs.declared.fault.PqFault.{PqFault}
@@ -10,9 +10,6 @@ use Rattle.dk_pqread.proofs.LevelLaws.{AreLevelsOf, levels_runs, runs_levels}
 
 pub runs_found : (width count used : ℕ) (bytes values : List ℕ) → AreFirst width count values (take used bytes) → HoldRuns width count bytes values
 runs_found width count used bytes values first = record { runs = take used bytes; over = drop used bytes; whole = sym (take-append-drop used bytes); first = first }
-
-pub no_levels : (greatest count : ℕ) (bytes : List ℕ) → greatest ≡ 0 → AreLevelsOf greatest count bytes (replicate count 0)
-no_levels greatest count bytes none = (length-replicate count 0, inl (none, ap (λ n. replicate n 0) (sym (length-replicate count 0))))
 
 pub levels_found : (greatest width count : ℕ) (bytes levels : List ℕ) → (greatest ≡ 0 → ⊥) → IsWidth greatest width → HoldRuns width count bytes levels → AreLevelsOf greatest count bytes levels
 levels_found greatest width count bytes levels some is held = runs_levels greatest width count bytes levels (omega (arith, some)) is held

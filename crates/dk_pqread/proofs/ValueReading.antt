@@ -1,5 +1,5 @@
 -- Values of each encoding are found, and only they.
-use Rattle.std.proofs.Common.{◌≡◌, ℕ, ◌+◌, ◌*◌, ◌<◌, ◌≤◌, inl, inr, ◌⊎◌, ℤ, pos, Option, Some, None, Result, slice_get, List, Vec, Global, [], ◌∷◌, ◌++◌, length, map, take, refl, sym, ap, subst, ◌∙◌, arith}
+use Rattle.std.proofs.Common.{◌≡◌, ℕ, ◌+◌, ◌*◌, ◌≤◌, inr, ℤ, Option, Some, None, Result, slice_get, List, Vec, Global, ◌∷◌, ◌++◌, length, map, take, refl, sym, ap, subst, ◌∙◌, arith}
 use Rattle.std.proofs.lemmas.List.{length-append, length-map}
 use Rattle.std.proofs.lemmas.Bool.{le-leb}
 use Rattle.dk_grammar.specs.Plain.{Plain, plain_values, bit_of}
@@ -19,7 +19,7 @@ use Rattle.dk_pqread.specs.Gives.{Fails, Gives}
 use Rattle.dk_pqread.specs.Meanings.{HoldRuns, Refuses, Finds}
 use Rattle.dk_pqread.specs.Values.{bits_in, flag_of, flags_at, plains_at, flag_at}
 use Rattle.dk_pqread.proofs.Bits.{is_one, flags_stand, flags_found}
-use Rattle.dk_pqread.proofs.Finding.{refuses_by, fails_refuses, finds_as, finds_given}
+use Rattle.dk_pqread.proofs.Finding.{refuses_by, fails_refuses, finds_given}
 use Rattle.dk_pqread.proofs.LevelLaws.{runs_once}
 use Rattle.dk_pqread.proofs.PartLaws.{none_is_not_some, sized_found}
 use Rattle.dk_pqread.proofs.PlainLaws.{plains_found}
@@ -74,18 +74,9 @@ plains_refused kind count bytes fault other h =
 abbrev pub AreInRuns : Leaf → ℕ → List ℕ → List Value → Type 0
 AreInRuns kind count bytes values = (length values ≡ count) × InRuns kind values bytes
 
-pub only_flags : (kind : Leaf) (count : ℕ) (bytes : List ℕ) → (kind ≡ flag → ⊥) → (values : List Value) → AreInRuns kind count bytes values → ⊥
-only_flags flag count bytes other values m = other refl
-only_flags int32 count bytes other values m = m.1
-only_flags int64 count bytes other values m = m.1
-only_flags chars count bytes other values m = m.1
-
 module _ (bytes : List ℕ) (count : ℕ) where
   in_sized : (values : List Value) → AreInRuns flag count bytes values → InSized bytes count values
   in_sized values m = subst (λ n. InSized bytes n values) m.0 (flag_runs bytes values m.1)
-
-  pub no_size : sized bytes ≡ None → (values : List Value) → AreInRuns flag count bytes values → ⊥
-  no_size none values m = (let s = in_sized values m in none_is_not_some (s.runs, s.over) (sym none ∙ s.sized))
 
   module _ (runs over : List ℕ) (cut : sized bytes ≡ Some (runs, over)) where
     abbrev Bits : List Value → Type 0
@@ -125,12 +116,6 @@ module _ (bytes : List ℕ) (count : ℕ) where
 abbrev pub AreFromDictionary : Leaf → Option (List Value) → ℕ → List ℕ → List Value → Type 0
 AreFromDictionary kind dictionary count bytes values = (length values ≡ count) × FromDictionary kind dictionary values bytes
 
-pub no_dictionary : (kind : Leaf) (count : ℕ) (bytes : List ℕ) (values : List Value) → AreFromDictionary kind None count bytes values → ⊥
-no_dictionary flag count bytes values m = m.1
-no_dictionary int32 count bytes values m = m.1
-no_dictionary int64 count bytes values m = m.1
-no_dictionary chars count bytes values m = m.1
-
 as_dictionary : (kind : Leaf) (entries values : List Value) (bytes : List ℕ) → (kind ≡ flag → ⊥) → ByIndices entries values bytes → FromDictionary kind (Some entries) values bytes
 as_dictionary flag entries values bytes other h = absurd (other refl)
 as_dictionary int32 entries values bytes other h = h
@@ -144,24 +129,11 @@ as_indices int64 entries values bytes h = h
 as_indices chars entries values bytes h = h
 
 module _ (kind : Leaf) (other : kind ≡ flag → ⊥) (entries : List Value) (bytes : List ℕ) (count : ℕ) where
-  pub nothing_there : count ≡ 0 → AreFromDictionary kind (Some entries) count bytes []
-  nothing_there none = (sym none, as_dictionary kind entries [] bytes other (inl refl))
-
   module _ (some : count ≡ 0 → ⊥) where
     at : (values : List Value) → AreFromDictionary kind (Some entries) count bytes values → AtPlaces entries bytes count values
     at values m = subst (λ n. AtPlaces entries bytes n values) m.0 (at_places entries values bytes (omega (arith, m.0, some)) (as_indices kind entries values bytes m.1))
 
-    pub no_width : bytes ≡ [] → (values : List Value) → AreFromDictionary kind (Some entries) count bytes values → ⊥
-    no_width none values m = (let a = at values m in let never : [] ≡ a.width ∷ a.rest = sym none ∙ a.whole in cc)
-
     module _ (width : ℕ) (rest : List ℕ) (whole : bytes ≡ width ∷ rest) where
-      pub too_wide : 32 < width → (values : List Value) → AreFromDictionary kind (Some entries) count bytes values → ⊥
-      too_wide wide values m =
-          let a = at values m in
-          let both : width ∷ rest ≡ a.width ∷ a.rest = sym whole ∙ a.whole in
-          let same : width ≡ a.width = cc in
-          omega (arith, same, a.narrow)
-
       abbrev Indices : List Value → Type 0
       Indices values = (indices : List ℕ) × (HoldRuns width count rest indices) × (each_of (λ index. slice_get entries index) indices ≡ Some values)
 
@@ -201,37 +173,3 @@ module _ (kind : Leaf) (other : kind ≡ flag → ⊥) (entries : List Value) (b
 module _ (column : ColumnAt) (dictionary : Option (List Value)) (code : ℤ) (count : ℕ) (bytes : List ℕ) where
   abbrev pub AreValuesOf : List Value → Type 0
   AreValuesOf values = (length values ≡ count) × HoldValues column dictionary code values bytes
-
-  as_plain : code ≡ pos 0 → (values : List Value) → AreValuesOf values → ArePlainly column.kind count bytes values
-  as_plain is values (len, inl h) = (len, h.1)
-  as_plain is values (len, inr (inl h)) = (let never : pos 0 ≡ pos 3 = sym is ∙ h.0 in cc)
-  as_plain is values (len, inr (inr (inl e, h))) = (let never : pos 0 ≡ pos 2 = sym is ∙ e in cc)
-  as_plain is values (len, inr (inr (inr e, h))) = (let never : pos 0 ≡ pos 8 = sym is ∙ e in cc)
-
-  pub plain_found_by_code : {X : Type 0} (view : X → List Value) (result : Result X PqFault) → code ≡ pos 0 → Finds view result (ArePlainly column.kind count bytes) → Finds view result AreValuesOf
-  plain_found_by_code view result is h = finds_as view result (ArePlainly column.kind count bytes) AreValuesOf (λ values m. (m.0, inl (is, m.1))) (as_plain is) h
-
-  as_runs : code ≡ pos 3 → (values : List Value) → AreValuesOf values → AreInRuns column.kind count bytes values
-  as_runs is values (len, inl h) = (let never : pos 3 ≡ pos 0 = sym is ∙ h.0 in cc)
-  as_runs is values (len, inr (inl h)) = (len, h.1)
-  as_runs is values (len, inr (inr (inl e, h))) = (let never : pos 3 ≡ pos 2 = sym is ∙ e in cc)
-  as_runs is values (len, inr (inr (inr e, h))) = (let never : pos 3 ≡ pos 8 = sym is ∙ e in cc)
-
-  pub runs_found_by_code : {X : Type 0} (view : X → List Value) (result : Result X PqFault) → code ≡ pos 3 → Finds view result (AreInRuns column.kind count bytes) → Finds view result AreValuesOf
-  runs_found_by_code view result is h = finds_as view result (AreInRuns column.kind count bytes) AreValuesOf (λ values m. (m.0, inr (inl (is, m.1)))) (as_runs is) h
-
-  as_places : (code ≡ pos 2) ⊎ (code ≡ pos 8) → (values : List Value) → AreValuesOf values → AreFromDictionary column.kind dictionary count bytes values
-  as_places (inl is) values (len, inl h) = (let never : pos 2 ≡ pos 0 = sym is ∙ h.0 in cc)
-  as_places (inr is) values (len, inl h) = (let never : pos 8 ≡ pos 0 = sym is ∙ h.0 in cc)
-  as_places (inl is) values (len, inr (inl h)) = (let never : pos 2 ≡ pos 3 = sym is ∙ h.0 in cc)
-  as_places (inr is) values (len, inr (inl h)) = (let never : pos 8 ≡ pos 3 = sym is ∙ h.0 in cc)
-  as_places is values (len, inr (inr h)) = (len, h.1)
-
-  pub places_found_by_code : {X : Type 0} (view : X → List Value) (result : Result X PqFault) → (code ≡ pos 2) ⊎ (code ≡ pos 8) → Finds view result (AreFromDictionary column.kind dictionary count bytes) → Finds view result AreValuesOf
-  places_found_by_code view result is h = finds_as view result (AreFromDictionary column.kind dictionary count bytes) AreValuesOf (λ values m. (m.0, inr (inr (is, m.1)))) (as_places is) h
-
-  pub no_such_code : (code ≡ pos 0 → ⊥) → (code ≡ pos 3 → ⊥) → (code ≡ pos 2 → ⊥) → (code ≡ pos 8 → ⊥) → (values : List Value) → AreValuesOf values → ⊥
-  no_such_code plain runs old new values (len, inl h) = plain h.0
-  no_such_code plain runs old new values (len, inr (inl h)) = runs h.0
-  no_such_code plain runs old new values (len, inr (inr (inl e, h))) = old e
-  no_such_code plain runs old new values (len, inr (inr (inr e, h))) = new e

@@ -1,7 +1,6 @@
 -- Triples of levels and values, one after another.
-use Rattle.std.proofs.Common.{◌≡◌, ℕ, zero, suc, ◌+◌, ◌≤◌, Option, Some, None, option_and_then, slice_get, List, [], ◌∷◌, ◌++◌, length, drop, refl, sym, ap, ◌∙◌, add-one, append_assoc}
+use Rattle.std.proofs.Common.{◌≡◌, ℕ, zero, suc, ◌+◌, Option, Some, None, option_and_then, slice_get, List, [], ◌∷◌, ◌++◌, drop, refl, sym, ap, ◌∙◌, add-one, append_assoc}
 use Rattle.std.specs.Option.{option_map}
-use Rattle.std.proofs.lemmas.List.{append-nil, drop_all}
 use Rattle.dk_pqmodel.specs.Datum.{Value, Entry, Column}
 use Rattle.dk_pqmodel.specs.declared.fault.PqFault.{PqFault}
 use Rattle.dk_pqread.specs.Gives.{Fails}
@@ -40,14 +39,3 @@ module _ (rep def : ℕ) (rs ds : List ℕ) (i : ℕ) (done : Column) (vs : List
     triple_fails fault h =
         fails_same fault (one_triple rep def r d vs) whole
         (λ e. sym opened ∙ ap (λ o. triples_then done (option_and_then (λ (x : Next). option_map (λ es. x.0 ∷ es) (zipped rep def (drop (i + 1) rs) (drop (i + 1) ds) x.1)) o)) e) h
-
-  module _ (end : length rs ≤ i) (other : length ds ≤ i) where
-    ended : triples_then done (zipped rep def [] [] vs) ≡ whole
-    ended =
-        sym (ap (λ xs. triples_then done (zipped rep def xs (drop i ds) vs)) (drop_all i rs end) ∙ ap (λ xs. triples_then done (zipped rep def [] xs vs)) (drop_all i ds other)) ∙ left
-
-    pub no_value_left : vs ≡ [] → whole ≡ Some done
-    no_value_left none = sym (sym (ap (λ x. triples_then done (zipped rep def [] [] x)) none) ∙ ended) ∙ ap Some (append-nil done)
-
-    pub value_left : (v : Value) (more : List Value) → vs ≡ v ∷ more → whole ≡ None
-    value_left v more some = sym (sym (ap (λ x. triples_then done (zipped rep def [] [] x)) some) ∙ ended)

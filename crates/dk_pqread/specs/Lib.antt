@@ -1,4 +1,5 @@
 pub mod Cells
+pub mod ChunkMeaning
 pub mod ColumnView
 pub mod Depth
 pub mod Examining

@@ -2,10 +2,15 @@
 #![tactic(auto)]
 
 mod bytes;
+mod chunk;
+#[cfg(test)]
+mod chunk_tests;
 mod column;
 mod cut;
+mod dictionary;
 mod examine;
 mod fault;
+mod group;
 pub mod laws;
 mod lay;
 mod leaf;
