@@ -15,10 +15,10 @@ use Rattle.dk_grammar.proofs.StructSpellings.{fields_long, headers}
 pub none_is_not_some : {A : Type 0} (x : A) → None ≡ Some x → ⊥
 none_is_not_some x h = cc
 
-some_is : {A : Type 0} (x y : A) → Some x ≡ Some y → x ≡ y
+pub some_is : {A : Type 0} (x y : A) → Some x ≡ Some y → x ≡ y
 some_is x y h = cc
 
-some_bound : {A B : Type 0} (o : Option A) (f : A → Option B) (y : B) → option_and_then f o ≡ Some y → (x : A) × ((o ≡ Some x) × (f x ≡ Some y))
+pub some_bound : {A B : Type 0} (o : Option A) (f : A → Option B) (y : B) → option_and_then f o ≡ Some y → (x : A) × ((o ≡ Some x) × (f x ≡ Some y))
 some_bound None f y h = absurd (none_is_not_some y h)
 some_bound (Some x) f y h = (x, (refl, h))
 
@@ -26,7 +26,7 @@ map_bound : {A B : Type 0} (o : Option A) (f : A → B) (y : B) → option_map f
 map_bound None f y h = absurd (none_is_not_some y h)
 map_bound (Some x) f y h = (x, (refl, some_is (f x) y h))
 
-when_is : {A : Type 0} (b : Bool) (x y : A) → cond b (Some x) None ≡ Some y → (b ≡ true) × (x ≡ y)
+pub when_is : {A : Type 0} (b : Bool) (x y : A) → cond b (Some x) None ≡ Some y → (b ≡ true) × (x ≡ y)
 when_is true x y h = (refl, some_is x y h)
 when_is false x y h = absurd (none_is_not_some y h)
 

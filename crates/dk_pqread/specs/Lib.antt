@@ -1,13 +1,16 @@
 pub mod Cells
+pub mod ChunkMeaning
 pub mod ColumnView
 pub mod Depth
 pub mod Examining
 pub mod Faults
 pub mod Gives
 pub mod Inner
-pub mod LeafView
 pub mod Laws
 pub mod Lays
+pub mod LeafView
+pub mod Meanings
+pub mod PageMeaning
 pub mod PlanView
 pub mod Scans
 pub mod Values

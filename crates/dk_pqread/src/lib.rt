@@ -2,17 +2,26 @@
 #![tactic(auto)]
 
 mod bytes;
+mod chunk;
+#[cfg(test)]
+mod chunk_tests;
 mod column;
 mod cut;
+mod dictionary;
 mod examine;
 mod fault;
+mod group;
 pub mod laws;
 mod lay;
 mod leaf;
 mod names;
+mod page;
 mod plain;
 mod plan;
+mod runs;
 mod scan;
 #[cfg(test)]
 mod tests;
 mod tree;
+mod values;
+mod zip;

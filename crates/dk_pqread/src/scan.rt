@@ -14,13 +14,13 @@ use dk_pages::{PageKind, PageView, next_page};
 use dk_pqmeta::{Chunk, RowGroup};
 
 /// The codes of the encodings that are read.
-const PLAIN: i32 = 0;
+pub(crate) const PLAIN: i32 = 0;
 
-const PLAIN_DICTIONARY: i32 = 2;
+pub(crate) const PLAIN_DICTIONARY: i32 = 2;
 
-const RLE: i32 = 3;
+pub(crate) const RLE: i32 = 3;
 
-const RLE_DICTIONARY: i32 = 8;
+pub(crate) const RLE_DICTIONARY: i32 = 8;
 
 /// The group's chunk of the path.
 pub(crate) fn chunk_of<'a>(group: &'a RowGroup, path: &Vec<String>) -> Option<&'a Chunk>
@@ -160,7 +160,7 @@ fn unread_code(column: &Column, page: &PageView<'_>) -> Option<i32>
     None
 }
 
-fn is_level_code(greatest: u8, code: i32) -> bool
+pub(crate) fn is_level_code(greatest: u8, code: i32) -> bool
     ensures { result ≡ is_level_code greatest code }
 {
     greatest == 0 || code == RLE

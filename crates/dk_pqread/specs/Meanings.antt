@@ -1,0 +1,58 @@
+-- What parts of a page, pages and chunks mean, and what functions that read them answer.
+use Rattle.std.specs.Prelude.{◌≡◌, ◌==◌, ℕ, nat_le, ⊤, if◌then◌else◌, ◌&&◌, Option, Some, None, option_map, option_and_then, Result, Ok, Err, List, [], ◌∷◌, ◌++◌, replicate, count_by, Vec}
+use Rattle.std.specs.declared.alloc.Global.{Global}
+use Rattle.dk_grammar.specs.Runs.{AreFirst}
+use Rattle.dk_pqmodel.specs.Datum.{Value, Entry, Column}
+use Rattle.dk_pqmodel.specs.declared.fault.PqFault.{PqFault}
+use Rattle.dk_pqmodel.specs.declared.fault.PqFault.TheVariants.{Broken, OutOfMemory}
+
+-- a refusal: nothing is meant, or memory was wanting
+abbrev pub Refuses : {Y : Type 0} → PqFault → (Y → Type 0) → Type 0
+Refuses {Y} Broken Means = (y : Y) → Means y → ⊥
+Refuses OutOfMemory Means = ⊤
+Refuses fault Means = ⊥
+
+-- what is meant is found; or nothing is meant
+abbrev pub Finds : {X Y : Type 0} → (X → Y) → Result X PqFault → (Y → Type 0) → Type 0
+Finds view (Ok x) Means = Means (view x)
+Finds view (Err fault) Means = Refuses fault Means
+
+-- bytes begin with runs of so many numbers
+pub record HoldRuns (width count : ℕ) (bytes numbers : List ℕ) : Type 0 where
+  pub runs : List ℕ
+  pub over : List ℕ
+  pub whole : bytes ≡ runs ++ over
+  pub first : AreFirst width count numbers runs
+
+-- ---- levels
+
+-- levels of a page, all 0 where none are kept
+abbrev pub levels_of : ℕ → Option (Vec ℕ Global) → List ℕ
+levels_of count None = replicate count 0
+levels_of count (Some levels) = levels.items
+
+-- how many levels are the greatest
+abbrev pub full_count : ℕ → List ℕ → ℕ
+full_count greatest levels = count_by (λ level. level == greatest) levels
+
+abbrev pub entry_with : ℕ → ℕ → Option Value → Entry
+entry_with r d v = record { repetition = r; definition = d; value = v }
+
+-- a triple that has the next value
+abbrev pub full_triple : ℕ → ℕ → List Value → Option (Entry × List Value)
+full_triple r d [] = None
+full_triple r d (v ∷ vs) = Some (entry_with r d (Some v), vs)
+
+-- A triple of two levels, which are at most the greatest, and the values behind it. With the greatest definition level it has a value.
+abbrev pub one_triple : ℕ → ℕ → ℕ → ℕ → List Value → Option (Entry × List Value)
+one_triple rep def r d vs = if nat_le r rep && nat_le d def then (if d == def then full_triple r d vs else Some (entry_with r d None, vs)) else None
+
+-- triples of levels and values, and no value is left
+abbrev pub zipped : ℕ → ℕ → List ℕ → List ℕ → List Value → Option Column
+zipped rep def [] [] [] = Some []
+zipped rep def (r ∷ rs) (d ∷ ds) vs = option_and_then (λ x. option_map (λ es. x.0 ∷ es) (zipped rep def rs ds x.1)) (one_triple rep def r d vs)
+zipped rep def rs ds vs = None
+
+-- triples before those that are left
+abbrev pub triples_then : Column → Option Column → Option Column
+triples_then done left = option_map (λ more. done ++ more) left

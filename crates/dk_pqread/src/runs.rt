@@ -1,0 +1,73 @@
+//! Numbers in runs: levels, flags, places in a dictionary.
+
+ghost use Rattle.std.specs.Prelude.{◌≡◌, ◌≤◌, length};
+ghost use Rattle.dk_pqmodel.specs.FilePages.{HoldLevels, IsWidth};
+ghost use Rattle.dk_pqread.specs.Meanings.{Finds, HoldRuns, full_count, levels_of};
+
+use dk_hybrid::{HybridFault, decode};
+use dk_pqmodel::PqFault;
+use std::alloc::Global;
+
+/// The first numbers of runs (Apache Parquet, "Run Length Encoding / Bit-Packing Hybrid").
+pub(crate) fn read_runs(
+    alloc: Global,
+    bytes: &[u8],
+    width: u8,
+    count: usize,
+) -> Result<Vec<u32>, PqFault>
+    requires { width ≤ 32 }
+    ensures { Finds (λ v. v.items) result (HoldRuns width count bytes.now) }
+{
+    match decode(alloc, bytes, width, count) {
+        Ok((numbers, _used)) => Ok(numbers),
+        Err(HybridFault::OutOfMemory) => Err(PqFault::OutOfMemory),
+        Err(HybridFault::Width) => Err(PqFault::Broken),
+        Err(HybridFault::Short) => Err(PqFault::Broken),
+    }
+}
+
+/// So many levels up to the greatest. Where that is 0 all are, and none is kept, however many are claimed.
+pub(crate) fn read_levels(
+    alloc: Global,
+    greatest: u8,
+    bytes: &[u8],
+    count: usize,
+) -> Result<Option<Vec<u32>>, PqFault>
+    ensures { Finds (levels_of count) result (λ levels. (length levels ≡ count) × HoldLevels greatest levels bytes.now) }
+{
+    if greatest == 0 {
+        return Ok(None);
+    }
+    Ok(Some(read_runs(alloc, bytes, width(greatest), count)?))
+}
+
+/// How many bits a level has: the least number that has room for the greatest.
+fn width(greatest: u8) -> u8
+    ensures room { IsWidth greatest result }
+    ensures narrow { result ≤ 8 }
+{
+    match greatest {
+        0 => 0,
+        1 => 1,
+        2..=3 => 2,
+        4..=7 => 3,
+        8..=15 => 4,
+        16..=31 => 5,
+        32..=63 => 6,
+        64..=127 => 7,
+        128..=255 => 8,
+    }
+}
+
+/// How many of so many levels are the greatest.
+pub(crate) fn count_full(levels: &Option<Vec<u32>>, greatest: u8, count: usize) -> usize
+    ensures { result ≡ full_count greatest (levels_of count levels.now) }
+{
+    match levels {
+        Some(levels) => levels
+            .iter()
+            .filter(|level| **level == u32::from(greatest))
+            .count(),
+        None => { if greatest == 0 { count } else { 0 } }
+    }
+}
