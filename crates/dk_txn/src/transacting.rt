@@ -5,10 +5,10 @@ use crate::Transaction;
 use dk_conflicts::Reads;
 use dk_engine::{Limits, Refusal, Which};
 use dk_handlers::SerdeJson;
-use dk_model::{Kind, Names, Text};
+use dk_model::{Commit, Kind, Names, Text};
 use dk_snapshot::{Snapshot, open_at, usual_choice};
 use dk_store::{Call, Fault, How, MemStore, Store};
-use std::alloc::Global;
+use std::alloc::{AllocError, Global};
 use std::process::Abort;
 use std::test::Fail;
 
@@ -103,25 +103,35 @@ fn reads_of(alloc: Global, read: Read) -> Result<Reads, Fail> {
     }
 }
 
-/// Puts an object with these lines.
-fn put_lines(alloc: Global, store: &mut MemStore, path: &str, lines: &[&str]) -> Result<(), Fail> {
+/// Lines one behind the other.
+fn joined(alloc: Global, lines: &[&str]) -> Result<Vec<u8>, AllocError> {
     let mut text = Vec::new(alloc);
     for line in lines {
         text.extend_from_slice(line.as_bytes())?;
     }
-    let _ = store.put_new(path, &text, 0);
-    Ok(())
+    Ok(text)
+}
+
+/// Puts an object with these lines, if memory suffices for its text.
+fn put_lines(alloc: Global, store: &mut MemStore, path: &str, lines: &[&str]) {
+    if let Ok(text) = joined(alloc, lines) {
+        let _ = store.put_new(path, &text, 0);
+    }
 }
 
 /// Whether the object of this path has exactly these lines.
-fn holds(alloc: Global, store: &mut MemStore, path: &str, lines: &[&str]) -> Result<bool, Fail> {
-    let mut text = Vec::new(alloc);
-    for line in lines {
-        text.extend_from_slice(line.as_bytes())?;
+fn holds(alloc: Global, store: &mut MemStore, path: &str, lines: &[&str]) -> bool {
+    match (joined(alloc, lines), store.get(path)) {
+        (Ok(text), Ok(Some(bytes))) => bytes.as_slice() == text.as_slice(),
+        _ => false,
     }
-    match store.get(path) {
-        Ok(Some(bytes)) => Ok(bytes.as_slice() == text.as_slice()),
-        _ => Ok(false),
+}
+
+/// Lets the next call of this kind fail, if memory suffices for the plan.
+fn fail_next(alloc: Global, store: &mut MemStore, call: Call, how: How) {
+    let mut faults = Vec::new(alloc);
+    if faults.push(Fault { call, nth: 1, how }).is_ok() {
+        store.plan(faults);
     }
 }
 
@@ -152,22 +162,37 @@ fn latest(alloc: Global, store: &mut MemStore) -> Option<Snapshot>
     }
 }
 
-/// The transaction 32, which has read this of the latest version and is to commit these lines.
+/// Puts all actions of a commit, as far as memory suffices.
+fn put_all(transaction: &mut Transaction, commit: Commit) {
+    for action in commit.into_vec() {
+        let _ = transaction.put(action);
+    }
+}
+
+/// The actions of these lines.
+fn actions_of(alloc: Global, lines: &[&str]) -> Result<Commit, Fail> {
+    let text = joined(alloc, lines)?;
+    Ok(dk_actjson::read_commit(alloc, &text)?)
+}
+
+/// The transaction 32, which has read this of the latest version and is to commit these actions.
+fn begun_with(alloc: Global, store: &mut MemStore, reads: Reads, commit: Commit) -> Transaction {
+    let snapshot = latest(alloc, store);
+    let mut transaction = Transaction::begin(alloc, snapshot, reads, 32);
+    put_all(&mut transaction, commit);
+    transaction
+}
+
+/// The same by what was read and by lines.
 fn begun(
     alloc: Global,
     store: &mut MemStore,
     read: Read,
     lines: &[&str],
 ) -> Result<Transaction, Fail> {
-    let snapshot = latest(alloc, store);
-    let mut transaction = Transaction::begin(alloc, snapshot, reads_of(alloc, read)?, 32);
-    for line in lines {
-        let commit = dk_actjson::read_commit(alloc, line.as_bytes())?;
-        for action in commit.into_vec() {
-            transaction.put(action)?;
-        }
-    }
-    Ok(transaction)
+    let reads = reads_of(alloc, read)?;
+    let commit = actions_of(alloc, lines)?;
+    Ok(begun_with(alloc, store, reads, commit))
 }
 
 fn end_of_commit(alloc: Global, store: &mut MemStore, transaction: &mut Transaction) -> End {
@@ -187,10 +212,10 @@ fn end_of_check(alloc: Global, store: &mut MemStore, transaction: &Transaction) 
 }
 
 /// A table of one file and one loader's count, at version 0.
-fn table(alloc: Global) -> Result<MemStore, Fail> {
+fn table(alloc: Global) -> MemStore {
     let mut store = MemStore::new(alloc);
-    put_lines(alloc, &mut store, FIRST, &[PROTOCOL, METADATA, ADD_A])?;
-    Ok(store)
+    put_lines(alloc, &mut store, FIRST, &[PROTOCOL, METADATA, ADD_A]);
+    store
 }
 
 /// What was read of version 0, what is committed after it, what others commit as version 1 meanwhile, and how it ends.
@@ -280,10 +305,10 @@ fn winners_are_in_the_way_as_they_conflict(rt: HostRuntime) -> Result<(), Fail> 
     let alloc = rt.alloc();
     for case in &CASES {
         let name = case.name;
-        let mut store = table(alloc)?;
+        let mut store = table(alloc);
         let mut transaction = begun(alloc, &mut store, case.read, case.own)?;
         if !case.winner.is_empty() {
-            put_lines(alloc, &mut store, SECOND, case.winner)?;
+            put_lines(alloc, &mut store, SECOND, case.winner);
         }
         let checked = end_of_check(alloc, &mut store, &transaction);
         assert_eq!(rt; checked, case.end, "{name}");
@@ -296,11 +321,11 @@ fn winners_are_in_the_way_as_they_conflict(rt: HostRuntime) -> Result<(), Fail> 
 #[test]
 fn the_first_winner_in_the_way_is_told(rt: HostRuntime) -> Result<(), Fail> {
     let alloc = rt.alloc();
-    let mut store = table(alloc)?;
+    let mut store = table(alloc);
     let mut transaction = begun(alloc, &mut store, Read::Table, &[ADD_C])?;
-    put_lines(alloc, &mut store, SECOND, &[LOADED])?;
-    put_lines(alloc, &mut store, THIRD, &[ADD_B])?;
-    put_lines(alloc, &mut store, FOURTH, &[METADATA])?;
+    put_lines(alloc, &mut store, SECOND, &[LOADED]);
+    put_lines(alloc, &mut store, THIRD, &[ADD_B]);
+    put_lines(alloc, &mut store, FOURTH, &[METADATA]);
     let end = end_of_commit(alloc, &mut store, &mut transaction);
     assert_eq!(rt; end, End::Conflict(2, Kind::ConcurrentAppend));
     Ok(())
@@ -309,21 +334,15 @@ fn the_first_winner_in_the_way_is_told(rt: HostRuntime) -> Result<(), Fail> {
 #[test]
 fn a_lost_answer_is_found_by_the_id(rt: HostRuntime) -> Result<(), Fail> {
     let alloc = rt.alloc();
-    let mut store = table(alloc)?;
+    let mut store = table(alloc);
     let mut transaction = begun(alloc, &mut store, Read::Table, &[ADD_B])?;
-    let mut faults = Vec::new(alloc);
-    faults.push(Fault {
-        call: Call::PutNew,
-        nth: 1,
-        how: How::After,
-    })?;
-    store.plan(faults);
+    fail_next(alloc, &mut store, Call::PutNew, How::After);
     let lost = end_of_commit(alloc, &mut store, &mut transaction);
     assert_eq!(rt; lost, End::Store);
-    put_lines(alloc, &mut store, THIRD, &[REMOVE_A])?;
+    put_lines(alloc, &mut store, THIRD, &[REMOVE_A]);
     let again = end_of_commit(alloc, &mut store, &mut transaction);
     assert_eq!(rt; again, End::Version(1));
-    let whole = holds(alloc, &mut store, SECOND, &[OWN, ADD_B])?;
+    let whole = holds(alloc, &mut store, SECOND, &[OWN, ADD_B]);
     assert!(rt; whole);
     let more = is_there(&mut store, FOURTH);
     assert!(rt; !more);
@@ -333,17 +352,11 @@ fn a_lost_answer_is_found_by_the_id(rt: HostRuntime) -> Result<(), Fail> {
 #[test]
 fn after_an_answer_the_store_is_left_alone(rt: HostRuntime) -> Result<(), Fail> {
     let alloc = rt.alloc();
-    let mut store = table(alloc)?;
+    let mut store = table(alloc);
     let mut transaction = begun(alloc, &mut store, Read::Table, &[ADD_B])?;
     let end = end_of_commit(alloc, &mut store, &mut transaction);
     assert_eq!(rt; end, End::Version(1));
-    let mut faults = Vec::new(alloc);
-    faults.push(Fault {
-        call: Call::Any,
-        nth: 1,
-        how: How::Before,
-    })?;
-    store.plan(faults);
+    fail_next(alloc, &mut store, Call::Any, How::Before);
     let again = end_of_commit(alloc, &mut store, &mut transaction);
     assert_eq!(rt; again, End::Version(1));
     let checked = end_of_check(alloc, &mut store, &transaction);
@@ -354,9 +367,9 @@ fn after_an_answer_the_store_is_left_alone(rt: HostRuntime) -> Result<(), Fail> 
 #[test]
 fn no_version_comes_after_the_last(rt: HostRuntime) -> Result<(), Fail> {
     let alloc = rt.alloc();
-    let mut store = table(alloc)?;
+    let mut store = table(alloc);
     let mut transaction = begun(alloc, &mut store, Read::Nothing, &[ADD_B])?;
-    put_lines(alloc, &mut store, LAST, &[ADD_C])?;
+    put_lines(alloc, &mut store, LAST, &[ADD_C]);
     let end = end_of_commit(alloc, &mut store, &mut transaction);
     assert_eq!(rt; end, End::NoVersionAfter(9_223_372_036_854_775_807));
     Ok(())
@@ -365,10 +378,10 @@ fn no_version_comes_after_the_last(rt: HostRuntime) -> Result<(), Fail> {
 #[test]
 fn a_winner_that_was_deleted_is_gone(rt: HostRuntime) -> Result<(), Fail> {
     let alloc = rt.alloc();
-    let mut store = table(alloc)?;
+    let mut store = table(alloc);
     let mut transaction = begun(alloc, &mut store, Read::Nothing, &[ADD_C])?;
-    put_lines(alloc, &mut store, SECOND, &[ADD_B])?;
-    put_lines(alloc, &mut store, THIRD, &[REMOVE_A])?;
+    put_lines(alloc, &mut store, SECOND, &[ADD_B]);
+    put_lines(alloc, &mut store, THIRD, &[REMOVE_A]);
     let _ = store.delete(SECOND);
     let checked = end_of_check(alloc, &mut store, &transaction);
     assert_eq!(rt; checked, End::Gone);
@@ -382,9 +395,9 @@ fn a_winner_that_stands_ratified_is_read_from_its_staged_object(
     rt: HostRuntime,
 ) -> Result<(), Fail> {
     let alloc = rt.alloc();
-    let mut store = table(alloc)?;
+    let mut store = table(alloc);
     let mut transaction = begun(alloc, &mut store, Read::Nothing, &[REMOVE_A])?;
-    put_lines(alloc, &mut store, STAGED, &[REMOVE_A])?;
+    put_lines(alloc, &mut store, STAGED, &[REMOVE_A]);
     let alone = end_of_check(alloc, &mut store, &transaction);
     assert_eq!(rt; alone, End::Version(1));
     let _ = store.ratify(1, STAGED_NAME);
@@ -403,7 +416,7 @@ fn a_transaction_makes_the_first_version(rt: HostRuntime) -> Result<(), Fail> {
     assert_eq!(rt; checked, End::Version(0));
     let end = end_of_commit(alloc, &mut store, &mut transaction);
     assert_eq!(rt; end, End::Version(0));
-    let whole = holds(alloc, &mut store, FIRST, &[OWN, PROTOCOL, METADATA, ADD_A])?;
+    let whole = holds(alloc, &mut store, FIRST, &[OWN, PROTOCOL, METADATA, ADD_A]);
     assert!(rt; whole);
     Ok(())
 }
@@ -418,9 +431,9 @@ fn an_id_that_was_used_before_is_answered(rt: HostRuntime) -> Result<(), Fail> {
         Read::Nothing,
         &[PROTOCOL, METADATA, ADD_A],
     )?;
-    put_lines(alloc, &mut store, FIRST, &[PROTOCOL, METADATA])?;
-    put_lines(alloc, &mut store, SECOND, &[OWN, ADD_B])?;
-    put_lines(alloc, &mut store, THIRD, &["no commit"])?;
+    put_lines(alloc, &mut store, FIRST, &[PROTOCOL, METADATA]);
+    put_lines(alloc, &mut store, SECOND, &[OWN, ADD_B]);
+    put_lines(alloc, &mut store, THIRD, &["no commit"]);
     let end = end_of_commit(alloc, &mut store, &mut transaction);
     assert_eq!(rt; end, End::Version(1));
     Ok(())
@@ -431,7 +444,7 @@ fn winners_without_a_protocol_are_a_damaged_log(rt: HostRuntime) -> Result<(), F
     let alloc = rt.alloc();
     let mut store = MemStore::new(alloc);
     let mut transaction = begun(alloc, &mut store, Read::Nothing, &[ADD_C])?;
-    put_lines(alloc, &mut store, FIRST, &[ADD_A])?;
+    put_lines(alloc, &mut store, FIRST, &[ADD_A]);
     let end = end_of_commit(alloc, &mut store, &mut transaction);
     assert_eq!(rt; end, End::Damaged);
     Ok(())
@@ -440,7 +453,7 @@ fn winners_without_a_protocol_are_a_damaged_log(rt: HostRuntime) -> Result<(), F
 #[test]
 fn rules_are_told_by_check_and_by_commit(rt: HostRuntime) -> Result<(), Fail> {
     let alloc = rt.alloc();
-    let mut store = table(alloc)?;
+    let mut store = table(alloc);
     let mut transaction = begun(alloc, &mut store, Read::Nothing, &[ADD_C, ADD_C])?;
     let checked = end_of_check(alloc, &mut store, &transaction);
     assert_eq!(rt; checked, End::Broken(3));
