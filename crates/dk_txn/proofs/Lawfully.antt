@@ -87,7 +87,7 @@ module _ (limits : Limits) (t : Transaction) (now passed : ℤ) (what : Prepared
       → ComesTold told → IfBoth told later (λ events after. ConcludesHistory (outcome events limits t now) own result events after)
   written_says told mid later result same means reads says comes =
       said told later result means (subst (λ (old : Option (List Told)). IfBoth old later (SaysHistory own result)) same
-        (says own (reads_own reads) (subst (λ (old : Option (List Told)). IfSome old (ComesNext writing.version own)) (sym same) (comes_told told means comes))))
+      (says own (reads_own reads) (subst (λ (old : Option (List Told)). IfSome old (ComesNext writing.version own)) (sym same) (comes_told told means comes))))
 
 -- ---- a clash comes over no store that tells its events
 

@@ -57,7 +57,16 @@ enum End {
 
 fn end_of(store: &mut MemStore, alloc: Global, limits: Limits, actions: Commit) -> End {
     let mut json = SerdeJson::new();
-    match commit_at_latest(alloc, store, &mut json, limits, Reads::Nothing, actions, 1000, 32) {
+    match commit_at_latest(
+        alloc,
+        store,
+        &mut json,
+        limits,
+        Reads::Nothing,
+        actions,
+        1000,
+        32,
+    ) {
         Ok(committed) => End::Version(committed.version),
         Err(Refusal::Store) => End::Store,
         Err(Refusal::Unsupported { .. }) => End::Unsupported,
