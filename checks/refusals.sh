@@ -46,13 +46,19 @@ expect 'a line that is cut short' 7 "deltak: {\"damaged\":{\"path\":\"$first\",\
 expect 'no metadata' 7 "deltak: {\"damaged\":{\"path\":\"$first\",\"place\":0}}" "$work/nothing" show
 expect 'a short name is no commit' 4 "deltak: {\"missing\":{\"path\":\"$first\"}}" "$work/other" show
 expect 'a version above the latest' 13 'deltak: {"noVersion":{"latest":2}}' "$work/gap" show --at 3
-expect 'a version with a leading zero' 2 'deltak: {"usage":{}}' "$work/gap" show --at 00
+expect 'a version of twenty digits' 2 'deltak: {"usage":{}}' "$work/gap" show --at 00000000000000000000
+expect 'an option of another command' 2 'deltak: {"usage":{}}' "$work/gap" show --reads=table
 expect 'a version that is missing' 2 'deltak: {"usage":{}}' "$work/gap" show --at
-mkdir -p "$work/three/_delta_log" "$work/vector/_delta_log" "$work/months/_delta_log"
-printf '%s\n%s\n' '{"protocol":{"minReaderVersion":3,"minWriterVersion":7,"readerFeatures":[],"writerFeatures":[]}}' "$metadata" >"$work/three/$first"
+mkdir -p "$work/unknown/_delta_log" "$work/vector/_delta_log" "$work/months/_delta_log"
+printf '%s\n%s\n' '{"protocol":{"minReaderVersion":3,"minWriterVersion":7,"readerFeatures":["unknownThing"],"writerFeatures":["unknownThing"]}}' "$metadata" >"$work/unknown/$first"
+mkdir -p "$work/four/_delta_log" "$work/five/_delta_log"
+printf '%s\n%s\n' '{"protocol":{"minReaderVersion":4,"minWriterVersion":7}}' "$metadata" >"$work/four/$first"
+printf '%s\n%s\n' '{"protocol":{"minReaderVersion":2,"minWriterVersion":5}}' "$metadata" >"$work/five/$first"
 printf '%s\n%s\n%s\n' "$protocol" "$metadata" '{"add":{"path":"a","size":1,"modificationTime":5,"deletionVector":{}}}' >"$work/vector/$first"
 printf '%s\n%s\n' "$protocol" '{"metaData":{"id":"t","schemaString":"{}","configuration":{"delta.deletedFileRetentionDuration":"interval 2 months"}}}' >"$work/months/$first"
-expect 'reader version 3' 5 'deltak: {"unsupported":{"name":"minReaderVersion 3"}}' "$work/three" show
+expect 'a feature that nobody knows' 5 'deltak: {"unsupported":{"name":"unknownThing"}}' "$work/unknown" show
+expect 'reader version 4' 5 'deltak: {"unsupported":{"name":"minReaderVersion 4"}}' "$work/four" show
+expect 'a feature that is not written' 5 'deltak: {"unsupported":{"name":"checkConstraints"}}' "$work/five" commit
 expect 'a deletion vector' 5 'deltak: {"unsupported":{"name":"deletionVectors"}}' "$work/vector" show
 expect 'a retention of months' 5 'deltak: {"unsupported":{"name":"delta.deletedFileRetentionDuration"}}' "$work/months" show
 mkdir "$work/gap/_delta_log/00000000000000000001.json"

@@ -48,6 +48,17 @@ const PROTOCOL_3: &str =
     r#"{"protocol":{"minReaderVersion":3,"minWriterVersion":7,"readerFeatures":[],"writerFeatures":[]}}
 "#;
 
+const PROTOCOL_2_5: &str = r#"{"protocol":{"minReaderVersion":2,"minWriterVersion":5}}
+"#;
+
+const PROTOCOL_UNKNOWN: &str =
+    r#"{"protocol":{"minReaderVersion":3,"minWriterVersion":7,"readerFeatures":["v2Checkpoint","unknownThing"],"writerFeatures":["v2Checkpoint","unknownThing"]}}
+"#;
+
+const PROTOCOL_VECTORS: &str =
+    r#"{"protocol":{"minReaderVersion":3,"minWriterVersion":7,"readerFeatures":["deletionVectors"],"writerFeatures":["deletionVectors"]}}
+"#;
+
 const PROTOCOL_4: &str = r#"{"protocol":{"minReaderVersion":4,"minWriterVersion":7}}
 "#;
 
@@ -122,7 +133,7 @@ struct Case {
     fault: &'static str,
 }
 
-const CASES: [Case; 27] = [
+const CASES: [Case; 30] = [
     Case {
         name: "an empty store lacks its first commit",
         commits: &[],
@@ -307,13 +318,40 @@ const CASES: [Case; 27] = [
         fault: "",
     },
     Case {
-        name: "reader version 3 isn't read so far",
-        commits: &[&[PROTOCOL_3, METADATA, VECTOR_A]],
+        name: "reader version 3 is read with features that readers know",
+        commits: &[&[PROTOCOL_3, METADATA, ADD_A]],
+        words: &["show"],
+        fails: Fails::Nothing,
+        code: 0,
+        lines: &[SNAPSHOT_0, PROTOCOL_3, METADATA, LIVE_A],
+        fault: "",
+    },
+    Case {
+        name: "versions 2 and 5 without lists are read",
+        commits: &[&[PROTOCOL_2_5, METADATA, ADD_A]],
+        words: &["show"],
+        fails: Fails::Nothing,
+        code: 0,
+        lines: &[SNAPSHOT_0, PROTOCOL_2_5, METADATA, LIVE_A],
+        fault: "",
+    },
+    Case {
+        name: "a feature that readers must know and nobody knows isn't read",
+        commits: &[&[PROTOCOL_UNKNOWN, METADATA, VECTOR_A]],
         words: &["show"],
         fails: Fails::Nothing,
         code: 5,
         lines: &[],
-        fault: r#"{"unsupported":{"name":"minReaderVersion 3"}}"#,
+        fault: r#"{"unsupported":{"name":"unknownThing"}}"#,
+    },
+    Case {
+        name: "nor are deletion vectors as a feature",
+        commits: &[&[PROTOCOL_VECTORS, METADATA]],
+        words: &["show"],
+        fails: Fails::Nothing,
+        code: 5,
+        lines: &[],
+        fault: r#"{"unsupported":{"name":"deletionVectors"}}"#,
     },
     Case {
         name: "nor is reader version 4",

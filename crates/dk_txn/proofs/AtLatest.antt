@@ -1,6 +1,7 @@
 -- What a commit of a transaction comes to that began at the latest version, where nothing came since.
-use Rattle.std.proofs.Common.{◌≡◌, ℕ, ℤ, ◌+◌, ◌<◌, ◌≤◌, ◌^◌, Bool, true, false, List, [], length, max, nat_lt, refl, ap, ap₂, sym, subst, ◌∙◌, arith, if◌then◌else◌}
+use Rattle.std.proofs.Common.{◌≡◌, ℕ, ℤ, ◌+◌, ◌<◌, ◌^◌, Bool, true, false, List, [], ◌++◌, length, nat_lt, refl, ap, ap₂, sym, subst, ◌∙◌, arith, if◌then◌else◌}
 use Rattle.std.specs.Prelude.{Option, Some, None, Result, Ok, Err, IfSome, ◌==◌}
+use Rattle.std.proofs.lemmas.Bool.{le-ltb}
 use Rattle.dk_store.specs.Told.{Told}
 use Rattle.dk_store.specs.Standings.{standing}
 use Rattle.dk_model.specs.declared.action.Action.{Action}
@@ -27,7 +28,7 @@ use Rattle.dk_txn.specs.declared.start.Start.{Start}
 use Rattle.dk_txn.specs.declared.transaction.Transaction.{Transaction}
 use Rattle.dk_txn.specs.Attempt.{last_version, after_snapshot, start_after, start, own_commit, commit_text, allowed, Writing, if_allowed, if_within, attempt_from, attempt}
 use Rattle.dk_txn.specs.Commits.{Commits, SaysHistory}
-use Rattle.dk_txn.specs.Transactions.{Outcome, After, Reached, if_headed, headed, oldest_of, and_also, rules_keep, may_come, to_write, outcome_after, outcome_at, reached_at, next_after, outcome, Concludes, Comes, ConcludesHistory}
+use Rattle.dk_txn.specs.Transactions.{Outcome, if_headed, headed, oldest_of, and_also, rules_keep, may_come, to_write, outcome_after, outcome_at, reached_at, next_after, outcome, Concludes, Comes, ConcludesHistory}
 use Rattle.dk_txn.proofs.Next.{attempt_next, within_is}
 use Rattle.dk_txn.proofs.Preparing.{none_reached, other_if}
 use Rattle.dk_txn.proofs.ReadHistory.{opened_reads}
@@ -113,7 +114,7 @@ pub at_latest : (events : List Told) (limits : Limits) (t : Transaction) (now : 
     → outcome events limits t now ≡ to_write (attempt events limits t.actions.items now t.id)
 at_latest events limits t now starts small =
     let at = started_at events limits now t.from starts in
-    let fits : nat_lt last_version t.from.version ≡ false = omega (arith, small) in
+    let fits : nat_lt last_version t.from.version ≡ false = le-ltb last_version t.from.version (omega (arith, small)) in
     let may : may_come t t.from None ≡ allowed t.from t.actions.items t.id =
     ap (λ (heads : Result (Unit {0}) Refusal). and_also heads (rules_keep t t.from None)) (at.heads (oldest_of t.segment)) ∙ only_rules (allowed t.from t.actions.items t.id) in
     ap (outcome_at events limits t now) at.next
@@ -179,3 +180,45 @@ module _ (limits : Limits) (now passed : ℤ) (t : Transaction) (own : List Acti
       says (attempt events limits own now id) (own_commit id own) events later result
       (subst (λ (commit : List Action). ConcludesHistory (to_write (attempt events limits own now id)) commit result events later) (ap₂ own_commit id_is own_is)
       (subst (λ (meant : Result Outcome Refusal). ConcludesHistory meant (own_commit t.id t.actions.items) result events later) (comes_to events begun small) said))
+
+-- ---- all of it in one call
+
+pub filled_items : (begun filled : Transaction) (own : List Action) → begun.actions.items ≡ [] → filled.actions.items ≡ begun.actions.items ++ own → filled.actions.items ≡ own
+filled_items begun filled own none laid = laid ∙ ap (λ (before : List Action). before ++ own) none
+
+module _ (limits : Limits) (now passed : ℤ) (begun filled : Transaction) (own : List Action) (id : ℕ) (moment : passed ≡ now) (from : filled.from ≡ begun.from) (own_is : filled.actions.items ≡ own) (id_is : filled.id ≡ id) where
+  abbrev BegunAt : Option (List Told) → Type 0
+  BegunAt told = IfSome told (λ events. start events limits passed ≡ Ok begun.from)
+
+  abbrev FilledAt : Option (List Told) → Type 0
+  FilledAt told = IfSome told (λ events. start events limits passed ≡ Ok filled.from)
+
+  filled_at : (told mid : Option (List Told)) → mid ≡ told → BegunAt told → FilledAt mid
+  filled_at told mid same begins = subst FilledAt (sym same) (here told begins)
+    where
+      here : (o : Option (List Told)) → BegunAt o → FilledAt o
+      here None at = tt
+      here (Some events) at = at ∙ ap (λ (f : Start). Ok f) (sym from)
+
+  pub latest_commits : (told mid later : Option (List Told)) (result : Result Committed Refusal) → mid ≡ told → BegunAt told
+      → IfSome mid (λ events. start events limits passed ≡ Ok filled.from → Commits (attempt events limits filled.actions.items passed filled.id) events result later)
+      → IfSome told (λ events. Commits (attempt events limits own now id) events result later)
+  latest_commits told mid later result same begins did =
+      go told begins (subst (λ (o : Option (List Told)). IfSome o (λ events. start events limits passed ≡ Ok filled.from → Commits (attempt events limits filled.actions.items passed filled.id) events result later)) same did)
+    where
+      go : (o : Option (List Told)) → BegunAt o → IfSome o (λ events. start events limits passed ≡ Ok filled.from → Commits (attempt events limits filled.actions.items passed filled.id) events result later)
+          → IfSome o (λ events. Commits (attempt events limits own now id) events result later)
+      go None at done = tt
+      go (Some events) at done =
+          subst (λ (meant : Result Writing Refusal). Commits meant events result later)
+          (ap₂ (λ (o : List Action) (i : ℕ). attempt events limits o passed i) own_is id_is ∙ ap (λ (n : ℤ). attempt events limits own n id) moment)
+          (done (at ∙ ap (λ (f : Start). Ok f) (sym from)))
+
+  pub latest_lawful : (told mid later : Option (List Told)) → mid ≡ told → BegunAt told → (FilledAt mid → KeepsLawful mid later) → KeepsLawful told later
+  latest_lawful told mid later same begins keeps = subst (λ (o : Option (List Told)). KeepsLawful o later) same (keeps (filled_at told mid same begins))
+
+  pub latest_says : (told mid later : Option (List Told)) (result : Result Committed Refusal) → mid ≡ told → BegunAt told
+      → (FilledAt mid → IfBoth mid later (SaysHistory (own_commit filled.id filled.actions.items) result)) → IfBoth told later (SaysHistory (own_commit id own) result)
+  latest_says told mid later result same begins says =
+      subst (λ (commit : List Action). IfBoth told later (SaysHistory commit result)) (ap₂ own_commit id_is own_is)
+      (subst (λ (o : Option (List Told)). IfBoth o later (SaysHistory (own_commit filled.id filled.actions.items) result)) same (says (filled_at told mid same begins)))

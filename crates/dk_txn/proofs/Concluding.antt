@@ -81,14 +81,6 @@ once_prepared told mid later limits t now passed what writing result moment same
     once_written told mid later limits t now passed writing.version writing.text.items result moment same (subst IsSmall is small)
     (subst (λ (p : Prepared). IfSome told (λ events. outcome events limits t passed ≡ Ok (prepared_as p))) is means) commits
 
-pub once_standing : (told later : Option (List Told)) (limits : Limits) (t : Transaction) (now passed : ℤ) (version : ℕ) → passed ≡ now → later ≡ told
-    → IfSome told (λ events. outcome events limits t passed ≡ Ok (Stands version))
-    → IfSome told (λ events. Concludes (outcome events limits t now) events (Ok (record { version = version })) later)
-once_standing None later limits t now passed version moment same means = tt
-once_standing (Some events) later limits t now passed version moment same means =
-    subst (λ (meant : Result Outcome Refusal). Concludes meant events (Ok (record { version = version })) later)
-    (sym (ap (λ (n : ℤ). outcome events limits t n) (sym moment) ∙ means)) (refl, same)
-
 concludes_refused : (refusal : Refusal) (meant : Result Outcome Refusal) (events : List Told) (later : Option (List Told)) → later ≡ Some events → Refuses refusal meant → Concludes meant events (Err refusal) later
 concludes_refused refusals.Store (Ok (Stands version)) events later same means = (tt, same)
 concludes_refused refusals.Store (Ok (Writes writing)) events later same means = inl same

@@ -1,5 +1,5 @@
 -- What a commit of a transaction did to a lawful log, where what it was to write may come next.
-use Rattle.std.proofs.Common.{◌≡◌, ℕ, ℤ, Bool, true, false, List, refl, ap, sym, subst, ◌∙◌, inl}
+use Rattle.std.proofs.Common.{◌≡◌, ℕ, ℤ, true, false, List, refl, ap, sym, subst, ◌∙◌, inl}
 use Rattle.std.specs.Prelude.{Option, Some, None, Result, Ok, Err, IfSome, is_some}
 use Rattle.dk_store.specs.Told.{Told}
 use Rattle.dk_model.specs.declared.action.Action.{Action}
@@ -7,7 +7,7 @@ use Rattle.dk_model.specs.CommitText.{commit_of}
 use Rattle.dk_engine.specs.declared.limits.Limits.{Limits}
 use Rattle.dk_engine.specs.declared.refusal.Refusal.{Refusal}
 use Rattle.dk_engine.specs.declared.refusal.Refusal.TheVariants as refusals
-use Rattle.dk_lawful.specs.Kept.{IfBoth, KeepsLawful, StaysLawful}
+use Rattle.dk_lawful.specs.Kept.{IfBoth, KeepsLawful}
 use Rattle.dk_txn.specs.declared.attempt.Writing as written
 use Rattle.dk_txn.specs.declared.commit.Committed.{Committed}
 use Rattle.dk_txn.specs.declared.prepared.Prepared.{Prepared}
@@ -37,14 +37,14 @@ refused_says (Some events) (Some later) limits t now refusal commit same =
     let at : later ≡ events = cc in
     subst (λ after. ConcludesHistory (outcome events limits t now) commit (Err refusal) events after) (sym at) (nothing_said (outcome events limits t now) refusal commit events)
 
-pub standing_says : (told later : Option (List Told)) (limits : Limits) (t : Transaction) (now passed : ℤ) (version : ℕ) (result : Result Committed Refusal) (commit : List Action) → passed ≡ now → later ≡ told
-    → IfSome told (λ events. outcome events limits t passed ≡ Ok (Stands version))
+pub standing_says : (told later : Option (List Told)) (limits : Limits) (t : Transaction) (now passed : ℤ) (what : Prepared) (version : ℕ) (result : Result Committed Refusal) (commit : List Action) → passed ≡ now → later ≡ told
+    → what ≡ prepared.Standing version → IfSome told (λ events. outcome events limits t passed ≡ Ok (prepared_as what))
     → IfBoth told later (λ events after. ConcludesHistory (outcome events limits t now) commit result events after)
-standing_says None None limits t now passed version result commit moment same means = tt
-standing_says None (Some later) limits t now passed version result commit moment same means = absurd (let no : ◌≡◌ {A = Option (List Told)} (Some later) None = same in cc)
-standing_says (Some events) None limits t now passed version result commit moment same means = absurd (let no : ◌≡◌ {A = Option (List Told)} None (Some events) = same in cc)
-standing_says (Some events) (Some later) limits t now passed version result commit moment same means =
-    subst (λ (meant : Result Outcome Refusal). ConcludesHistory meant commit result events later) (sym (ap (λ (n : ℤ). outcome events limits t n) (sym moment) ∙ means)) tt
+standing_says None None limits t now passed what version result commit moment same is means = tt
+standing_says None (Some later) limits t now passed what version result commit moment same is means = absurd (let no : ◌≡◌ {A = Option (List Told)} (Some later) None = same in cc)
+standing_says (Some events) None limits t now passed what version result commit moment same is means = absurd (let no : ◌≡◌ {A = Option (List Told)} None (Some events) = same in cc)
+standing_says (Some events) (Some later) limits t now passed what version result commit moment same is means =
+    subst (λ (meant : Result Outcome Refusal). ConcludesHistory meant commit result events later) (sym (ap (λ (n : ℤ). outcome events limits t n) (sym moment) ∙ means ∙ ap (λ (p : Prepared). Ok (prepared_as p)) is)) tt
 
 -- ---- one commit was written
 

@@ -32,17 +32,9 @@ use Rattle.dk_txn.specs.declared.winners.Found.TheVariants as founds
 use Rattle.dk_txn.proofs.Written.{allowed_reads}
 use Rattle.dk_txn.specs.Attempt.{last_version, own_commit, commit_text, allowed, Writing, if_allowed, if_within}
 use Rattle.dk_txn.specs.Winners.{Since, Own, Others, gone, or_gone, since_steps, since_sources, sources, commit_at, AreWinners}
-use Rattle.dk_txn.specs.Transactions.{Reached, At_own, After, come_to, headed, oldest_of, unless_conflict, and_also, rules_keep, may_come, reached, writing_at, Outcome, Stands, Writes, to_write, outcome_after, reached_by, reached_at, outcome_at, next_after, outcome}
+use Rattle.dk_txn.specs.Transactions.{Reached, After, come_to, headed, oldest_of, unless_conflict, and_also, rules_keep, may_come, reached, writing_at, Outcome, Writes, to_write, outcome_after, reached_by, reached_at, outcome_at, next_after, outcome}
 
 -- ---- a winner that is missing is gone
-
-pub gone_store : (refusal : Refusal) → gone refusal ≡ refusals.Store → refusal ≡ refusals.Store
-gone_store (refusals.Missing path) is = absurd (let no : refusals.WinnersGone path ≡ refusals.Store = is in cc)
-gone_store refusal is = is
-
-pub gone_taken : (refusal : Refusal) (path : List ℕ) → gone refusal ≡ refusals.Taken path → refusal ≡ refusals.Taken path
-gone_taken (refusals.Missing other) path is = absurd (let no : refusals.WinnersGone other ≡ refusals.Taken path = is in cc)
-gone_taken refusal path is = is
 
 -- what refuses a part, gone where it is missing, refuses what is made of it
 pub gone_by_part : {X Y : Type 0} (whole : Result X Refusal → Result Y Refusal) → ((r : Refusal) → whole (Err r) ≡ Err (gone r))
@@ -91,7 +83,7 @@ module _ (events : List Told) (limits : Limits) (t : Transaction) where
       ∙ ap reached_from (sym is)
 
   -- no version came since
-  none_reached : (next : ℕ) → t.from.version ≡ next → reached_at events limits t next ≡ Ok (After t.from.before None)
+  pub none_reached : (next : ℕ) → t.from.version ≡ next → reached_at events limits t next ≡ Ok (After t.from.before None)
   none_reached next same =
       let none : next - t.from.version ≡ 0 = omega (arith, same) in
       ap reached_from (ap (λ (n : ℕ). sources events t.from.version n) none ∙ walked_none (commit_at events) t.from.version)
@@ -128,22 +120,7 @@ winners_gone (Some events) listing limits t now next refusal result is_gone foun
 
 -- ---- after the winners
 
--- what was reached refuses, or is the own commit, or leads on
-pub after_refused : (told : Option (List Told)) (limits : Limits) (t : Transaction) (now : ℤ) (next : ℕ) (state : TableState) (found : List Step) (sizes : List (Option ℕ)) (refusal : Refusal) → state ≡ t.from.before
-    → IfSome told (λ events. AreSized events found sizes → Refuses refusal (reached_by events limits t state found))
-    → IfSome told (λ events. AreSized events found sizes → Refuses refusal (outcome_after t limits now next (reached_by events limits t t.from.before found)))
-after_refused None limits t now next state found sizes refusal same means = tt
-after_refused (Some events) limits t now next state found sizes refusal same means = λ sized.
-    subst (λ (s : TableState). Refuses refusal (outcome_after t limits now next (reached_by events limits t s found))) same
-    (refused_by_part (outcome_after t limits now next) (λ r. refl) refusal (reached_by events limits t state found) (means sized))
-
-pub after_own : (told : Option (List Told)) (limits : Limits) (t : Transaction) (now : ℤ) (next : ℕ) (state : TableState) (found : List Step) (sizes : List (Option ℕ)) (version : ℕ) → state ≡ t.from.before
-    → IfSome told (λ events. AreSized events found sizes → reached_by events limits t state found ≡ Ok (At_own version))
-    → IfSome told (λ events. AreSized events found sizes → outcome_after t limits now next (reached_by events limits t t.from.before found) ≡ Ok (Stands version))
-after_own None limits t now next state found sizes version same means = tt
-after_own (Some events) limits t now next state found sizes version same means = λ sized.
-    ap (outcome_after t limits now next) (ap (λ (s : TableState). reached_by events limits t s found) (sym same) ∙ means sized)
-
+-- all that was reached are commits of others
 pub after_others : {X : Type 0} (view : X → Outcome) (told : Option (List Told)) (limits : Limits) (t : Transaction) (now passed : ℤ) (next : ℕ) (state after : TableState) (found : List Step) (sizes : List (Option ℕ)) (what : Found) (conflict : Option (ℕ × Kind)) (result : Result X Refusal) → passed ≡ now → state ≡ t.from.before → what ≡ founds.Others conflict
     → IfSome told (λ events. AreSized events found sizes → reached_by events limits t state found ≡ Ok (reached after what))
     → Gives view result (to_write (writing_at t limits passed (record { version = next; before = after }) conflict))
@@ -160,7 +137,7 @@ chosen_if : {X : Type 0} (test : Bool) (one other : X) → test ≡ true → (if
 chosen_if true one other is = refl
 chosen_if false one other is = absurd (let no : false ≡ true = is in cc)
 
-other_if : {X : Type 0} (test : Bool) (one other : X) → test ≡ false → (if test then one else other) ≡ other
+pub other_if : {X : Type 0} (test : Bool) (one other : X) → test ≡ false → (if test then one else other) ≡ other
 other_if true one other is = absurd (let no : true ≡ false = is in cc)
 other_if false one other is = refl
 

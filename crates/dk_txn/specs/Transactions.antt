@@ -9,7 +9,7 @@ use Rattle.dk_model.specs.declared.action.Metadata.{Metadata}
 use Rattle.dk_model.specs.declared.kind.Kind.{Kind}
 use Rattle.dk_model.specs.declared.state.TableState.{TableState}
 use Rattle.dk_model.specs.CommitText.{commit_of}
-use Rattle.dk_model.specs.State.{empty_state, steps_of_all}
+use Rattle.dk_model.specs.State.{steps_of_all}
 use Rattle.dk_paths.specs.Numbers.{id_text}
 use Rattle.dk_conflicts.specs.declared.reads.Reads.{Reads}
 use Rattle.dk_conflicts.specs.Conflicts.{conflict_from}
@@ -37,9 +37,9 @@ use Rattle.dk_txn.specs.Winners.{Since, Own, Others, since, since_steps, or_gone
 -- ---- how it begins
 
 -- it has read so much, has this id, and commits nothing yet
-pub record IsNew (reads : Reads) (id : ℕ) (t : Transaction) : Type 0 where
-  pub reads : t.reads ≡ reads
-  pub id : t.id ≡ id
+pub record IsNew (read : Reads) (drawn : ℕ) (t : Transaction) : Type 0 where
+  pub reads : t.reads ≡ read
+  pub id : t.id ≡ drawn
   pub actions : t.actions.items ≡ []
   pub committed : t.committed ≡ None
   pub small : t.from.version < 2 ^ 63

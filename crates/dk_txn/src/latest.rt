@@ -1,5 +1,5 @@
 //! A commit that begins at the latest version.
-ghost use Rattle.std.specs.Prelude.{◌≡◌, ◌≤◌, ◌<◌, ◌^◌, ◌++◌, [], ℕ, List, Ok, Err, None, IfSome, OnOk, is_some};
+ghost use Rattle.std.specs.Prelude.{◌≡◌, ◌≤◌, ◌<◌, ◌^◌, ◌++◌, ℕ, List, Ok, Err, None, IfOk, IfSome, OnOk, is_some};
 ghost use Rattle.dk_store.specs.Causes.{Rose};
 ghost use Rattle.dk_lawful.specs.Kept.{IfBoth, KeepsLawful};
 ghost use Rattle.dk_txn.specs.Attempt.{attempt, own_commit, start};
@@ -24,31 +24,41 @@ fn put_all(transaction: &mut Transaction, actions: Vec<Action>) -> Result<(), Al
     Ok(())
 }
 
-/// Commits these actions as a transaction that commits nothing else yet.
-fn commit_begun(
+/// The transaction with these actions laid behind those that are to be committed.
+fn filled(begun: Transaction, actions: Commit) -> Result<Transaction, AllocError>
+    ensures laid { IfOk result (λ t. t.actions.items ≡ begun.actions.items ++ actions) }
+    ensures same { IfOk result (λ t. t ≡ record begun { actions = t.actions }) }
+{
+    let mut transaction = begun;
+    match put_all(&mut transaction, actions.into_vec()) {
+        Ok(()) => Ok(transaction),
+        Err(AllocError) => Err(AllocError),
+    }
+}
+
+/// Commits a transaction that has not committed yet. The clauses speak of the case that nothing came since it began.
+fn commit_filled(
     alloc: Global,
     store: &mut dyn Store,
     json: &mut dyn JsonHandler,
     limits: Limits,
-    begun: Transaction,
-    actions: Commit,
+    filled: Transaction,
     now: i64,
 ) -> Result<Committed, Refusal>
-    requires empty { begun.actions.items ≡ [] }
-    requires fresh { begun.committed ≡ None }
-    requires small { begun.from.version < 2 ^ 63 }
-    ensures commits { IfSome (told store.old) (λ events. start events limits now ≡ Ok begun.from → Commits (attempt events limits actions now begun.id) events result (told store.new)) }
+    requires fresh { filled.committed ≡ None }
+    requires small { filled.from.version < 2 ^ 63 }
+    ensures commits { IfSome (told store.old) (λ events. start events limits now ≡ Ok filled.from
+        → Commits (attempt events limits filled.actions.items now filled.id) events result (told store.new)) }
     ensures alike { is_some (told store.new) ≡ is_some (told store.old) }
     ensures later { store_faults store.old ≤ store_faults store.new }
     ensures clashes_later { clashes store.old ≤ clashes store.new }
     ensures store { result ≡ Err Refusal.Store → Rose (store_faults store.old) (store_faults store.new) }
     ensures taken { (path : List ℕ) → result ≡ Err (Refusal.Taken path) → Rose (clashes store.old) (clashes store.new) }
-    ensures lawful { IfSome (told store.old) (λ events. start events limits now ≡ Ok begun.from) → KeepsLawful (told store.old) (told store.new) }
-    ensures history { IfSome (told store.old) (λ events. start events limits now ≡ Ok begun.from)
-        → IfBoth (told store.old) (told store.new) (SaysHistory (own_commit begun.id actions) result) }
+    ensures lawful { IfSome (told store.old) (λ events. start events limits now ≡ Ok filled.from) → KeepsLawful (told store.old) (told store.new) }
+    ensures history { IfSome (told store.old) (λ events. start events limits now ≡ Ok filled.from)
+        → IfBoth (told store.old) (told store.new) (SaysHistory (own_commit filled.id filled.actions.items) result) }
 {
-    let mut transaction = begun;
-    put_all(&mut transaction, actions.into_vec())?;
+    let mut transaction = filled;
     transaction.commit(alloc, store, json, limits, now)
 }
 
@@ -88,6 +98,9 @@ pub fn commit_at_latest(
 {
     match Transaction::begin_latest(alloc, store, json, limits, reads, now, id) {
         Err(refusal) => Err(refusal),
-        Ok(begun) => commit_begun(alloc, store, json, limits, begun, actions, now),
+        Ok(begun) => match filled(begun, actions) {
+            Err(AllocError) => Err(Refusal::OutOfMemory),
+            Ok(transaction) => commit_filled(alloc, store, json, limits, transaction, now),
+        },
     }
 }

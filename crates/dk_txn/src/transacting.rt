@@ -365,6 +365,17 @@ fn after_an_answer_the_store_is_left_alone(rt: HostRuntime) -> Result<(), Fail> 
 }
 
 #[test]
+fn what_the_snapshot_has_is_read_no_more(rt: HostRuntime) -> Result<(), Fail> {
+    let alloc = rt.alloc();
+    let mut store = table(alloc);
+    let mut transaction = begun(alloc, &mut store, Read::Table, &[ADD_B])?;
+    fail_next(alloc, &mut store, Call::Get, How::Before);
+    let end = end_of_commit(alloc, &mut store, &mut transaction);
+    assert_eq!(rt; end, End::Version(1));
+    Ok(())
+}
+
+#[test]
 fn no_version_comes_after_the_last(rt: HostRuntime) -> Result<(), Fail> {
     let alloc = rt.alloc();
     let mut store = table(alloc);

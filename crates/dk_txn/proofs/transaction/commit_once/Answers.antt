@@ -18,7 +18,7 @@ returns-in-Err-clause-history g c = λ comes. refused_says _ _ c.args.limits c.a
 
 pub returns-in-Ok-Standing-clause-history : goal.returns-in-Ok-Standing-clause-history
 returns-in-Ok-Standing-clause-history g c = λ comes.
-    standing_says _ _ c.args.limits c.args.transaction.now c.args.now _ c.in-Ok-Standing.version _ _ (to_z-of_z w64 c.args.now c.ranges.now) c.in-Ok-Standing.ensures.same c.in-Ok-Standing.ensures.means
+    standing_says _ _ c.args.limits c.args.transaction.now c.args.now _ c.in-Ok-Standing.field-0 c.in-Ok-Standing.version _ _ (to_z-of_z w64 c.args.now c.ranges.now) c.in-Ok-Standing.ensures.same c.in-Ok-Standing.field-0-is c.in-Ok-Standing.ensures.means
 
 pub returns-in-Ok-Writing-clause-lawful : goal.returns-in-Ok-Writing-clause-lawful
 returns-in-Ok-Writing-clause-lawful g c =
