@@ -1,3 +1,4 @@
+pub mod Committing
 pub mod FaultTexts
 pub mod History
 pub mod Pieces
