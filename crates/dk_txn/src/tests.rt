@@ -644,9 +644,9 @@ fn store_of(alloc: Global, case: &Case) -> Result<MemStore, Fail> {
 fn a_commit_comes_after_the_latest_version_that_can_be_opened(rt: HostRuntime) -> Result<(), Fail> {
     let alloc = rt.alloc();
     let usual = Limits::usual();
-    let commit = actions_of(alloc, &[ADD_B])?;
     for case in &CASES {
         let name = case.name;
+        let commit = actions_of(alloc, &[ADD_B])?;
         let mut store = store_of(alloc, case)?;
         let limits = Limits {
             object: case.limit,
