@@ -25,11 +25,11 @@ use Rattle.dk_txn.proofs.Next.{free_above, within_is}
 
 -- ---- the version that is written
 
-at_version : (may : Result (Unit {0}) Refusal) (limit version : ℕ) (text : List ℕ) (writing : Writing) → if_allowed may (if_within limit (version, text)) ≡ Ok writing → writing.0 ≡ version
+pub at_version : (may : Result (Unit {0}) Refusal) (limit version : ℕ) (text : List ℕ) (writing : Writing) → if_allowed may (if_within limit (version, text)) ≡ Ok writing → writing.0 ≡ version
 at_version (Err refusal) limit version text writing is = absurd (let no : ◌≡◌ {A = Result Writing Refusal} (Err refusal) (Ok writing) = is in cc)
 at_version (Ok u) limit version text writing is = sym (ap (λ (w : Writing). w.0) (within_is (fits limit (Some (length text))) (version, text) writing is))
 
-is_written : (meant : Result Writing Refusal) (writing : Writing) → to_write meant ≡ Ok (Writes writing) → meant ≡ Ok writing
+pub is_written : (meant : Result Writing Refusal) (writing : Writing) → to_write meant ≡ Ok (Writes writing) → meant ≡ Ok writing
 is_written (Err refusal) writing is = absurd (let no : ◌≡◌ {A = Result Outcome Refusal} (Err refusal) (Ok (Writes writing)) = is in cc)
 is_written (Ok other) writing is = let same : ◌≡◌ {A = Result Outcome Refusal} (Ok (Writes other)) (Ok (Writes writing)) = is in cc
 

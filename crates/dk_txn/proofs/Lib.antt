@@ -2,6 +2,9 @@ pub mod AtLatest
 pub mod Concluding
 pub mod Next
 pub mod Lawfully
+pub mod LawfulWinners
+pub mod FitTransactions
+pub mod OwnStaysFit
 pub mod NotAbove
 pub mod ReadHistory
 pub mod ReadWinners

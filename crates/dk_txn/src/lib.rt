@@ -5,6 +5,7 @@
 mod attempt;
 mod commit;
 mod latest;
+pub mod laws;
 mod prepared;
 mod rules;
 mod start;

@@ -14,6 +14,13 @@ use std::test::Fail;
 
 const PROTOCOL: &str = "{\"protocol\":{\"minReaderVersion\":1,\"minWriterVersion\":1}}\n";
 
+/// A protocol of tables with domains.
+const PROTOCOL_DOMAINS: &str =
+    "{\"protocol\":{\"minReaderVersion\":1,\"minWriterVersion\":7,\"writerFeatures\":[\"domainMetadata\"]}}\n";
+
+const DOMAIN: &str =
+    "{\"domainMetadata\":{\"configuration\":\"c\",\"domain\":\"d\",\"removed\":false}}\n";
+
 const METADATA: &str =
     "{\"metaData\":{\"configuration\":{},\"format\":{\"options\":{},\"provider\":\"parquet\"},\"id\":\"t\",\"partitionColumns\":[],\"schemaString\":\"{}\"}}\n";
 
@@ -328,6 +335,18 @@ fn the_first_winner_in_the_way_is_told(rt: HostRuntime) -> Result<(), Fail> {
     put_lines(alloc, &mut store, FOURTH, &[METADATA]);
     let end = end_of_commit(alloc, &mut store, &mut transaction);
     assert_eq!(rt; end, End::Conflict(2, Kind::ConcurrentAppend));
+    Ok(())
+}
+
+#[test]
+fn two_commits_of_one_domain_are_in_each_others_way(rt: HostRuntime) -> Result<(), Fail> {
+    let alloc = rt.alloc();
+    let mut store = MemStore::new(alloc);
+    put_lines(alloc, &mut store, FIRST, &[PROTOCOL_DOMAINS, METADATA]);
+    let mut transaction = begun(alloc, &mut store, Read::Nothing, &[DOMAIN])?;
+    put_lines(alloc, &mut store, SECOND, &[DOMAIN]);
+    let end = end_of_commit(alloc, &mut store, &mut transaction);
+    assert_eq!(rt; end, End::Conflict(1, Kind::DomainChanged));
     Ok(())
 }
 

@@ -5,6 +5,7 @@ ghost use Rattle.dk_store.specs.Causes.{Rose};
 ghost use Rattle.dk_engine.specs.Answers.{Gives};
 ghost use Rattle.dk_lawful.specs.Kept.{IfBoth, KeepsLawful};
 ghost use Rattle.dk_txn.specs.Attempt.{own_commit, start, start_of};
+ghost use Rattle.dk_txn.specs.TransactionHistory.{SaysOwn};
 ghost use Rattle.dk_txn.specs.Transactions.{Begins, Comes, Concludes, ConcludesHistory, IsNew, Remembers, outcome, version_meant};
 
 use crate::commit::{Committed, write};
@@ -238,6 +239,9 @@ impl Transaction {
             → KeepsLawful (told store.old) (told store.new) }
         ensures history { self.old.committed ≡ None → IfSome (told store.old) (λ events. Comes (outcome events limits self.old now) (own_commit self.old.id self.old.actions.items) events)
             → IfBoth (told store.old) (told store.new) (λ events later. ConcludesHistory (outcome events limits self.old now) (own_commit self.old.id self.old.actions.items) result events later) }
+
+        // In the words of those who are at work on a table.
+        ensures own { IfBoth (told store.old) (told store.new) (SaysOwn self.old self.new result) }
     {
         if let Some(version) = self.committed {
             return Ok(Committed { version });

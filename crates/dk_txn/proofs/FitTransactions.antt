@@ -1,0 +1,230 @@
+-- What a commit comes to of a transaction that stands to a lawful log as it should: the next commit of the history.
+use Rattle.std.proofs.Common.{◌≡◌, ℕ, zero, suc, ℤ, ◌+◌, ◌-◌, ◌<◌, ◌≤◌, Bool, true, false, List, [], ◌∷◌, take, drop, nat_lt, refl, ap, sym, subst, ◌∙◌, arith, inl, inr, if◌then◌else◌}
+use Rattle.std.specs.Prelude.{Option, Some, None, Result, Ok, Err, ◌==◌}
+use Rattle.std.proofs.lemmas.Bool.Decides.{eqb_tells}
+use Rattle.dk_store.specs.Told.{Told}
+use Rattle.dk_model.specs.declared.action.Action.{Action}
+use Rattle.dk_model.specs.declared.kind.Kind.{Kind}
+use Rattle.dk_model.specs.declared.state.TableState.{TableState}
+use Rattle.dk_model.specs.State.{empty_state, steps, steps_of_all, fold}
+use Rattle.dk_paths.specs.Numbers.{id_text}
+use Rattle.dk_conflicts.specs.Conflicts.{conflict_from}
+use Rattle.dk_engine.specs.declared.limits.Limits.{Limits}
+use Rattle.dk_engine.specs.declared.limits.Which.TheVariants as which
+use Rattle.dk_engine.specs.declared.refusal.Refusal.{Refusal}
+use Rattle.dk_engine.specs.declared.refusal.Refusal.TheVariants as refusals
+use Rattle.dk_lawful.specs.Actors as actors
+use Rattle.dk_lawful.specs.Agree.{Agree}
+use Rattle.dk_lawful.specs.History.{history, next_version, commits_of, table, table_at}
+use Rattle.dk_lawful.specs.Ids.{HasId}
+use Rattle.dk_lawful.specs.Lawful.{Lawful}
+use Rattle.dk_lawful.specs.Rules.{first_broken, IsValidNext}
+use Rattle.dk_lawful.proofs.HeadRules.{rules_by_heads}
+use Rattle.dk_lawful.proofs.SegmentsAgree.{agree_steps}
+use Rattle.dk_lawful.proofs.Unmanaged.{goes_on_unmanaged}
+use Rattle.dk_listing.specs.OfEvents.{latest}
+use Rattle.dk_snapshot.specs.LawfulOpens.{last_of}
+use Rattle.dk_snapshot.proofs.LastVersion.{latest_is_last}
+use Rattle.dk_txn.specs.declared.start.Start.{Start}
+use Rattle.dk_txn.specs.declared.transaction.Transaction.{Transaction}
+use Rattle.dk_txn.specs.Attempt.{last_version, verdict, unsupported, own_commit, commit_text, allowed, Writing, if_allowed, if_within}
+use Rattle.dk_txn.specs.Winners.{Since, Own, Others, since}
+use Rattle.dk_txn.specs.Transactions.{come_to, headed, oldest_of, unless_conflict, and_also, may_come, writing_at, Outcome, Stands, Writes, to_write, outcome_after, reached_at, outcome_at, next_after, outcome, Comes}
+use Rattle.dk_txn.specs.TransactionHistory.{IsFit, snapshot_of, own_of}
+use Rattle.dk_txn.specs.WinnerLaws.{AreLater}
+use Rattle.dk_txn.specs.FitLaws.{IsNextOf, FitIsNext, FitComes}
+use Rattle.dk_txn.proofs.Concluding.{is_written, at_version}
+use Rattle.dk_txn.proofs.LawfulWinners.{others_are_later, own_is_had}
+
+agrees_itself : (state : TableState) (horizon : ℤ) → Agree state state horizon
+agrees_itself state horizon = record {
+  protocol = refl;
+  metadata = refl;
+  files = refl;
+  applications = refl;
+  domains = refl;
+  none_more = λ path time is. is;
+  unexpired = λ path time is above. is;
+}
+
+-- the same commits on both sides keep states that agree
+agree_all : (commits : List (List Action)) (state whole : TableState) (horizon : ℤ) → Agree state whole horizon → Agree (steps_of_all state commits) (steps_of_all whole commits) horizon
+agree_all [] state whole horizon agree = agree
+agree_all (commit ∷ commits) state whole horizon agree = agree_all commits (steps state commit) (steps whole commit) horizon (agree_steps state whole horizon commit agree)
+
+-- the first commits and then the rest are all
+all_steps : (commits : List (List Action)) (first : ℕ) (state : TableState) → steps_of_all (steps_of_all state (take first commits)) (drop first commits) ≡ steps_of_all state commits
+all_steps commits zero state = refl
+all_steps [] (suc first) state = refl
+all_steps (commit ∷ commits) (suc first) state = all_steps commits first (steps state commit)
+
+module _ (events : List Told) (horizon : ℤ) (lawful : Lawful events horizon) (t : Transaction) (fit : IsFit events horizon t) where
+  abbrev commits : List (List Action)
+  commits = commits_of (history events)
+
+  -- ---- how its snapshot stands to the history
+
+  known_with : (first : Bool) → (t.from.version == 0) ≡ first → t.from.version ≤ next_version events
+  known_with true is = elim (eqb_tells t.from.version 0) [
+    | inl yes_it ↦ let none : t.from.version ≡ 0 = yes_it.1 in omega (arith, none)
+    | inr no_it ↦ absurd (let no : true ≡ false = sym is ∙ no_it.0 in cc)
+  ]
+  known_with false is =
+      let snapshot : snapshot_of t.from ≡ Some (record { version = t.from.version - 1; state = t.from.before }) =
+      ap (λ (b : Bool). if b then None else Some (record { version = t.from.version - 1; state = t.from.before })) is in
+      let below : t.from.version - 1 < next_version events = fit.fits.known (record { version = t.from.version - 1; state = t.from.before }) snapshot in
+      omega (arith, below)
+
+  pub within : t.from.version ≤ next_version events
+  within = known_with (t.from.version == 0) refl
+
+  agree_with : (first : Bool) → (t.from.version == 0) ≡ first → Agree t.from.before (fold (take t.from.version commits)) horizon
+  agree_with true is = elim (eqb_tells t.from.version 0) [
+    | inl yes_it ↦
+        let none : t.from.version ≡ 0 = yes_it.1 in
+        subst (λ (n : ℕ). Agree t.from.before (fold (take n commits)) horizon) (sym none)
+        (subst (λ (s : TableState). Agree s empty_state horizon) (sym (fit.empty none)) (agrees_itself empty_state horizon))
+    | inr no_it ↦ absurd (let no : true ≡ false = sym is ∙ no_it.0 in cc)
+  ]
+  agree_with false is =
+      let snapshot : snapshot_of t.from ≡ Some (record { version = t.from.version - 1; state = t.from.before }) =
+      ap (λ (b : Bool). if b then None else Some (record { version = t.from.version - 1; state = t.from.before })) is in
+      let agree : Agree t.from.before (table_at events (t.from.version - 1)) horizon = fit.fits.agrees (record { version = t.from.version - 1; state = t.from.before }) snapshot in
+      elim (eqb_tells t.from.version 0) [
+        | inl yes_it ↦ absurd (let no : true ≡ false = sym yes_it.0 ∙ is in cc)
+        | inr no_it ↦
+            let back : (t.from.version - 1) + 1 ≡ t.from.version = some_before t.from.version no_it.1 in
+            subst (λ (n : ℕ). Agree t.from.before (fold (take n commits)) horizon) back agree
+      ]
+    where
+      some_before : (n : ℕ) → (n ≡ 0 → ⊥) → (n - 1) + 1 ≡ n
+      some_before zero not_none = absurd (not_none refl)
+      some_before (suc n) not_none = omega arith
+
+  before_agrees : Agree t.from.before (fold (take t.from.version commits)) horizon
+  before_agrees = agree_with (t.from.version == 0) refl
+
+  -- its id stands after the snapshot alone
+  after_with : (first : Bool) → (t.from.version == 0) ≡ first → (version : ℕ) → HasId (history events) version (id_text t.id) → t.from.version ≤ version
+  after_with true is version has = elim (eqb_tells t.from.version 0) [
+    | inl yes_it ↦ let none : t.from.version ≡ 0 = yes_it.1 in omega (arith, none)
+    | inr no_it ↦ absurd (let no : true ≡ false = sym is ∙ no_it.0 in cc)
+  ]
+  after_with false is version has =
+      let snapshot : snapshot_of t.from ≡ Some (record { version = t.from.version - 1; state = t.from.before }) =
+      ap (λ (b : Bool). if b then None else Some (record { version = t.from.version - 1; state = t.from.before })) is in
+      let above : t.from.version - 1 < version = fit.fits.later (record { version = t.from.version - 1; state = t.from.before }) snapshot version has in
+      omega (arith, above)
+
+  pub stands_after : (version : ℕ) → HasId (history events) version (id_text t.id) → t.from.version ≤ version
+  stands_after version has = after_with (t.from.version == 0) refl version has
+
+  -- ---- the version that comes next
+
+  next_with : (last : Option ℕ) (next : ℕ) → next_version events ≡ next → last ≡ last_of next → next_after t.from.version last ≡ next_version events
+  next_with last zero is top = ap (next_after t.from.version) top ∙ (let low = within in omega (arith, is, low))
+  next_with last (suc before) is top = ap (next_after t.from.version) top ∙ (let low = within in omega (arith, is, low))
+
+  next_is : next_after t.from.version (latest events) ≡ next_version events
+  next_is = next_with (latest events) (next_version events) refl (latest_is_last events horizon lawful)
+
+  -- ---- what is to be written
+
+  no_broken : (name : Option (List ℕ)) (broken : Option ℕ) (u : Unit {0}) → verdict name broken ≡ Ok u → broken ≡ None
+  no_broken (Some name) broken u is = absurd (let no : ◌≡◌ {A = Result (Unit {0}) Refusal} (Err (refusals.Unsupported name)) (Ok u) = is in cc)
+  no_broken None (Some rule) u is = absurd (let no : ◌≡◌ {A = Result (Unit {0}) Refusal} (Err (refusals.Invalid rule)) (Ok u) = is in cc)
+  no_broken None None u is = refl
+
+  no_conflict : (conflict : Option (ℕ × Kind)) (u : Unit {0}) → unless_conflict conflict ≡ Ok u → conflict ≡ None
+  no_conflict None u is = refl
+  no_conflict (Some conflict) u is = absurd (let no : ◌≡◌ {A = Result (Unit {0}) Refusal} (Err (refusals.Conflict conflict.0 conflict.1)) (Ok u) = is in cc)
+
+  record Passed (from : Start) (conflict : Option (ℕ × Kind)) : Type 0 where
+    rules : first_broken from.before from.version (own_of t) ≡ None
+    free : conflict ≡ None
+
+  passed : (from : Start) (conflict : Option (ℕ × Kind)) (heads may free : Result (Unit {0}) Refusal) (writing : Writing) (meant : Result Writing Refusal) → allowed from t.actions.items t.id ≡ may → unless_conflict conflict ≡ free
+      → if_allowed (and_also heads (and_also may free)) meant ≡ Ok writing → Passed from conflict
+  passed from conflict (Err refusal) may free writing meant is is_free done = absurd (let no : ◌≡◌ {A = Result Writing Refusal} (Err refusal) (Ok writing) = done in cc)
+  passed from conflict (Ok u) (Err refusal) free writing meant is is_free done = absurd (let no : ◌≡◌ {A = Result Writing Refusal} (Err refusal) (Ok writing) = done in cc)
+  passed from conflict (Ok u) (Ok v) (Err refusal) writing meant is is_free done = absurd (let no : ◌≡◌ {A = Result Writing Refusal} (Err refusal) (Ok writing) = done in cc)
+  passed from conflict (Ok u) (Ok v) (Ok w) writing meant is is_free done = record {
+    rules = no_broken (unsupported from.before) (first_broken from.before from.version (own_commit t.id t.actions.items)) v is;
+    free = no_conflict conflict w is_free;
+  }
+
+  module _ (limits : Limits) (now : ℤ) (writing : Writing) where
+    by_others : (winners : List (List Action)) → AreLater events t.from.version (id_text t.id) winners
+        → to_write (writing_at t limits now (record { version = next_version events; before = steps_of_all t.from.before winners }) (conflict_from t.reads t.actions.items t.from.version winners)) ≡ Ok (Writes writing)
+        → IsNextOf events t writing
+    by_others winners since_then is =
+        let all : winners ≡ drop t.from.version commits = since_then.all in
+        let from : Start = record { version = next_version events; before = steps_of_all t.from.before winners } in
+        let conflict : Option (ℕ × Kind) = conflict_from t.reads t.actions.items t.from.version winners in
+        let meant : writing_at t limits now from conflict ≡ Ok writing = is_written (writing_at t limits now from conflict) writing is in
+        let pass = passed from conflict (headed (oldest_of t.segment) from) (allowed from t.actions.items t.id) (unless_conflict conflict) writing
+        (if_within limits.object (from.version, commit_text t.id now t.actions.items)) refl refl meant in
+        let at : writing.0 ≡ next_version events = at_version (may_come t from conflict) limits.object (next_version events) (commit_text t.id now t.actions.items) writing meant in
+        let leads : steps_of_all (fold (take t.from.version commits)) winners ≡ table events =
+        ap (steps_of_all (fold (take t.from.version commits))) all ∙ all_steps commits t.from.version empty_state in
+        let agrees : Agree from.before (table events) horizon =
+        subst (λ (s : TableState). Agree from.before s horizon) leads (agree_all winners t.from.before (fold (take t.from.version commits)) horizon before_agrees) in
+        record {
+          next = at;
+          valid = subst (λ (v : ℕ). IsValidNext (table events) v (own_of t)) (sym at)
+              (sym (rules_by_heads from.before (table events) (next_version events) (own_of t) agrees.protocol agrees.metadata) ∙ pass.rules);
+          free = subst (λ (ws : List (List Action)). conflict_from t.reads t.actions.items t.from.version ws ≡ None) all pass.free;
+          nowhere = λ version has. since_then.none_own version (stands_after version has) has;
+        }
+
+    by_since : (meant : Result Since Refusal) → since events limits.object (id_text t.id) t.from.version (next_version events - t.from.version) ≡ meant
+        → outcome_after t limits now (next_version events) (come_to t.reads t.actions.items t.from.version t.from.before None meant) ≡ Ok (Writes writing) → IsNextOf events t writing
+    by_since (Err refusal) since_is is = absurd (let no : ◌≡◌ {A = Result Outcome Refusal} (Err refusal) (Ok (Writes writing)) = is in cc)
+    by_since (Ok (Own version)) since_is is = absurd (let no : ◌≡◌ {A = Result Outcome Refusal} (Ok (Stands version)) (Ok (Writes writing)) = is in cc)
+    by_since (Ok (Others winners)) since_is is =
+        by_others winners (others_are_later events horizon lawful limits.object (id_text t.id) t.from.version (next_version events - t.from.version) winners (let low = within in omega (arith, low)) since_is) is
+
+    by_limit : (above : Bool) → (if above then Err (refusals.Limit which.Version last_version) else outcome_after t limits now (next_version events) (reached_at events limits t (next_version events))) ≡ Ok (Writes writing)
+        → IsNextOf events t writing
+    by_limit true is = absurd (let no : ◌≡◌ {A = Result Outcome Refusal} (Err (refusals.Limit which.Version last_version)) (Ok (Writes writing)) = is in cc)
+    by_limit false is = by_since (since events limits.object (id_text t.id) t.from.version (next_version events - t.from.version)) refl is
+
+    fit_next : outcome events limits t now ≡ Ok (Writes writing) → IsNextOf events t writing
+    fit_next is = by_limit (nat_lt last_version (next_version events)) (sym (ap (outcome_at events limits t now) next_is) ∙ is)
+
+  module _ (limits : Limits) (now : ℤ) (version : ℕ) where
+    had_since : (meant : Result Since Refusal) → since events limits.object (id_text t.id) t.from.version (next_version events - t.from.version) ≡ meant
+        → outcome_after t limits now (next_version events) (come_to t.reads t.actions.items t.from.version t.from.before None meant) ≡ Ok (Stands version) → HasId (history events) version (id_text t.id)
+    had_since (Err refusal) since_is is = absurd (let no : ◌≡◌ {A = Result Outcome Refusal} (Err refusal) (Ok (Stands version)) = is in cc)
+    had_since (Ok (Own at)) since_is is =
+        let same : at ≡ version = (let both : ◌≡◌ {A = Result Outcome Refusal} (Ok (Stands at)) (Ok (Stands version)) = is in cc) in
+        subst (λ (v : ℕ). HasId (history events) v (id_text t.id)) same
+        (own_is_had events horizon lawful limits.object (id_text t.id) t.from.version (next_version events - t.from.version) at (let low = within in omega (arith, low)) since_is).1
+    had_since (Ok (Others winners)) since_is is =
+        absurd (never (writing_at t limits now (record { version = next_version events; before = steps_of_all t.from.before winners }) (conflict_from t.reads t.actions.items t.from.version winners)) is)
+      where
+        never : (meant : Result Writing Refusal) → to_write meant ≡ Ok (Stands version) → ⊥
+        never (Ok writing) is_it = let no : ◌≡◌ {A = Result Outcome Refusal} (Ok (Writes writing)) (Ok (Stands version)) = is_it in cc
+        never (Err refusal) is_it = let no : ◌≡◌ {A = Result Outcome Refusal} (Err refusal) (Ok (Stands version)) = is_it in cc
+
+    had_limit : (above : Bool) → (if above then Err (refusals.Limit which.Version last_version) else outcome_after t limits now (next_version events) (reached_at events limits t (next_version events))) ≡ Ok (Stands version)
+        → HasId (history events) version (id_text t.id)
+    had_limit true is = absurd (let no : ◌≡◌ {A = Result Outcome Refusal} (Err (refusals.Limit which.Version last_version)) (Ok (Stands version)) = is in cc)
+    had_limit false is = had_since (since events limits.object (id_text t.id) t.from.version (next_version events - t.from.version)) refl is
+
+    -- an own commit that is found stands in the history
+    pub fit_had : outcome events limits t now ≡ Ok (Stands version) → HasId (history events) version (id_text t.id)
+    fit_had is = had_limit (nat_lt last_version (next_version events)) (sym (ap (outcome_at events limits t now) next_is) ∙ is)
+
+pub fit_is_next : FitIsNext
+fit_is_next events horizon limits t now writing lawful fit is = fit_next events horizon lawful t fit limits now writing is
+
+pub fit_comes : FitComes
+fit_comes events horizon limits t now lawful fit = by (outcome events limits t now) refl
+  where
+    by : (meant : Result Outcome Refusal) → outcome events limits t now ≡ meant → Comes meant (own_of t) events
+    by (Err refusal) is = tt
+    by (Ok (Stands version)) is = tt
+    by (Ok (Writes writing)) is = λ other also.
+        let next = fit_is_next events horizon limits t now writing lawful fit is in
+        record { next = next.next; by_file = goes_on_unmanaged (table events) writing.0 (own_of t) next.valid; valid = next.valid }

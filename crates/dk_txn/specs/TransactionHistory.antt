@@ -1,0 +1,68 @@
+-- What a commit of a transaction did to the history of a lawful log, in the words of those who are at work on a table.
+use Rattle.std.specs.Prelude.{◌≡◌, ◌⊎◌, ℕ, ℤ, ◌-◌, ◌==◌, ◌≤◌, List, drop, Option, Some, None, Result, Ok, Err, if◌then◌else◌}
+use Rattle.dk_store.specs.Told.{Told}
+use Rattle.dk_model.specs.declared.action.Action.{Action}
+use Rattle.dk_model.specs.State.{empty_state}
+use Rattle.dk_paths.specs.Numbers.{id_text}
+use Rattle.dk_conflicts.specs.Conflicts.{conflict_from}
+use Rattle.dk_engine.specs.declared.refusal.Refusal.{Refusal}
+use Rattle.dk_lawful.specs.Actors as actors
+use Rattle.dk_lawful.specs.History.{history, next_version, commits_of, table}
+use Rattle.dk_lawful.specs.Ids.{HasId}
+use Rattle.dk_lawful.specs.Kept.{HasOneMore}
+use Rattle.dk_lawful.specs.Lawful.{Lawful}
+use Rattle.dk_lawful.specs.Rules.{IsValidNext}
+use Rattle.dk_txn.specs.declared.commit.Committed.{Committed}
+use Rattle.dk_txn.specs.declared.start.Start.{Start}
+use Rattle.dk_txn.specs.declared.transaction.Transaction.{Transaction}
+use Rattle.dk_txn.specs.Attempt.{own_commit}
+use Rattle.dk_txn.specs.Commits.{HistoryAfterRefusal}
+
+-- ---- the transaction as the law of the log sees it
+
+abbrev pub snapshot_of : Start → Option actors.Snapshot
+snapshot_of from = if from.version == 0 then None else Some (record { version = from.version - 1; state = from.before })
+
+abbrev pub actor_of : Transaction → actors.Transaction
+actor_of t = record { id = t.id; snapshot = snapshot_of t.from; put = t.actions.items; own = None; answered = t.committed }
+
+-- it stands to the log as it should; without a snapshot it comes after nothing
+pub record IsFit (events : List Told) (horizon : ℤ) (t : Transaction) : Type 0 where
+  pub fits : actors.TransactionFits events horizon (actor_of t)
+  pub empty : t.from.version ≡ 0 → t.from.before ≡ empty_state
+
+-- ---- what it did
+
+abbrev pub own_of : Transaction → List Action
+own_of t = own_commit t.id t.actions.items
+
+-- the commits of the history that came after its snapshot
+abbrev pub later_commits : Transaction → List Told → List (List Action)
+later_commits t events = drop t.from.version (commits_of (history events))
+
+-- the history has its commit already, as this version, after the snapshot; nothing was added
+pub record HadCommit (t : Transaction) (version : ℕ) (events later : List Told) : Type 0 where
+  pub same : later ≡ events
+  pub after : t.from.version ≤ version
+  pub has : HasId (history events) version (id_text t.id)
+
+-- the history is longer by exactly its commit, as this version; the rules held there, and none of the commits after the snapshot was in the way
+pub record AddsOwn (t : Transaction) (version : ℕ) (events later : List Told) : Type 0 where
+  pub next : version ≡ next_version events
+  pub more : HasOneMore (own_of t) events later
+  pub valid : IsValidNext (table events) version (own_of t)
+  pub free : conflict_from t.reads t.actions.items t.from.version (later_commits t events) ≡ None
+
+abbrev pub HistoryAfter : Transaction → Result Committed Refusal → List Told → List Told → Type 0
+HistoryAfter t (Ok committed) events later = HadCommit t committed.version events later ⊎ AddsOwn t committed.version events later
+HistoryAfter t (Err refusal) events later = HistoryAfterRefusal refusal (own_of t) events later
+
+-- the log stays lawful, the history says what was answered, and the transaction, as it is after the call, stays fit
+pub record CommitsOwn (t after : Transaction) (result : Result Committed Refusal) (events later : List Told) (horizon : ℤ) : Type 0 where
+  pub lawful : Lawful later horizon
+  pub history : HistoryAfter t result events later
+  pub fit : IsFit later horizon after
+
+-- on a lawful log with the transaction fit
+abbrev pub SaysOwn : Transaction → Transaction → Result Committed Refusal → List Told → List Told → Type 0
+SaysOwn t after result events later = (horizon : ℤ) → Lawful events horizon → IsFit events horizon t → CommitsOwn t after result events later horizon

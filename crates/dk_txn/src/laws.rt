@@ -1,0 +1,18 @@
+//! Laws of transactions, over the events of a store. None of these functions does anything when it runs.
+ghost use Rattle.dk_txn.specs.FitLaws.{FitComes, FitIsNext};
+ghost use Rattle.dk_txn.specs.WinnerLaws.{OthersAreLater, OwnIsHad};
+
+/// On a lawful log the winners of a transaction are all commits of the history since its snapshot, and none of these has its id;
+/// or the own commit that is found is the one that the history has there (Delta Lake's PROTOCOL.md, "Delta Log
+/// Entries", "Commit Provenance Information").
+pub fn winners_are_the_history()
+    ensures others { OthersAreLater }
+    ensures own { OwnIsHad }
+{}
+
+/// What a transaction that stands to a lawful log as it should is to write is the next version of the history: the rules hold
+/// there, and none of the commits since its snapshot is in its way.
+pub fn fit_transactions_come_next()
+    ensures next { FitIsNext }
+    ensures comes { FitComes }
+{}
