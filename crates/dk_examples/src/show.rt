@@ -133,7 +133,7 @@ struct Case {
     fault: &'static str,
 }
 
-const CASES: [Case; 30] = [
+const CASES: [Case; 13] = [
     Case {
         name: "an empty store lacks its first commit",
         commits: &[],
@@ -197,6 +197,67 @@ const CASES: [Case; 30] = [
         lines: &[],
         fault: r#"{"damaged":{"path":"_delta_log/00000000000000000000.json","place":0}}"#,
     },
+    Case {
+        name: "a line that is damaged after the asked version is not read",
+        commits: &[&[PROTOCOL, METADATA, ADD_A], &["{\"add\":"]],
+        words: &["show", "--at", "0"],
+        fails: Fails::Nothing,
+        code: 0,
+        lines: &[SNAPSHOT_0, PROTOCOL, METADATA, LIVE_A],
+        fault: "",
+    },
+    Case {
+        name: "of two damaged commits the newest comes first",
+        commits: &[&[PROTOCOL, METADATA], &["[1]"], &[ADD_A], &["\n", "[2]"]],
+        words: &["show"],
+        fails: Fails::Nothing,
+        code: 7,
+        lines: &[],
+        fault: r#"{"damaged":{"path":"_delta_log/00000000000000000003.json","place":2}}"#,
+    },
+    Case {
+        name: "another producer's commit is read",
+        commits: &[&[FOREIGN]],
+        words: &["show"],
+        fails: Fails::Nothing,
+        code: 0,
+        lines: &[SNAPSHOT_0, PROTOCOL, METADATA, FOREIGN_A, FOREIGN_B],
+        fault: "",
+    },
+    Case {
+        name: "applications and domains are shown by name, as they were set last",
+        commits: &[
+            &[PROTOCOL, METADATA, TXN_B, TXN_A_1, DOMAIN_E],
+            &[DOMAIN_D, NO_DOMAIN_E, TXN_A_2],
+        ],
+        words: &["show"],
+        fails: Fails::Nothing,
+        code: 0,
+        lines: &[SNAPSHOT_1, PROTOCOL, METADATA, TXN_A_2, TXN_B, DOMAIN_D],
+        fault: "",
+    },
+    Case {
+        name: "a sink that fails at once takes nothing",
+        commits: &[&[PROTOCOL, METADATA, ADD_A]],
+        words: &["show"],
+        fails: Fails::Sink,
+        code: 10,
+        lines: &[],
+        fault: r#"{"sink":{}}"#,
+    },
+    Case {
+        name: "a commit that can't be read is a fault of the store",
+        commits: &[&[PROTOCOL, METADATA, ADD_A]],
+        words: &["show"],
+        fails: Fails::Get,
+        code: 3,
+        lines: &[],
+        fault: r#"{"store":{}}"#,
+    },
+];
+
+/// What the words ask for.
+const WORDS: [Case; 9] = [
     Case {
         name: "another word is no command",
         commits: &[&[PROTOCOL, METADATA, ADD_A]],
@@ -278,45 +339,10 @@ const CASES: [Case; 30] = [
         lines: &[],
         fault: r#"{"usage":{}}"#,
     },
-    Case {
-        name: "a line that is damaged after the asked version is not read",
-        commits: &[&[PROTOCOL, METADATA, ADD_A], &["{\"add\":"]],
-        words: &["show", "--at", "0"],
-        fails: Fails::Nothing,
-        code: 0,
-        lines: &[SNAPSHOT_0, PROTOCOL, METADATA, LIVE_A],
-        fault: "",
-    },
-    Case {
-        name: "of two damaged commits the newest comes first",
-        commits: &[&[PROTOCOL, METADATA], &["[1]"], &[ADD_A], &["\n", "[2]"]],
-        words: &["show"],
-        fails: Fails::Nothing,
-        code: 7,
-        lines: &[],
-        fault: r#"{"damaged":{"path":"_delta_log/00000000000000000003.json","place":2}}"#,
-    },
-    Case {
-        name: "another producer's commit is read",
-        commits: &[&[FOREIGN]],
-        words: &["show"],
-        fails: Fails::Nothing,
-        code: 0,
-        lines: &[SNAPSHOT_0, PROTOCOL, METADATA, FOREIGN_A, FOREIGN_B],
-        fault: "",
-    },
-    Case {
-        name: "applications and domains are shown by name, as they were set last",
-        commits: &[
-            &[PROTOCOL, METADATA, TXN_B, TXN_A_1, DOMAIN_E],
-            &[DOMAIN_D, NO_DOMAIN_E, TXN_A_2],
-        ],
-        words: &["show"],
-        fails: Fails::Nothing,
-        code: 0,
-        lines: &[SNAPSHOT_1, PROTOCOL, METADATA, TXN_A_2, TXN_B, DOMAIN_D],
-        fault: "",
-    },
+];
+
+/// Which tables are read, and which of their removed files are shown.
+const SUPPORT: [Case; 8] = [
     Case {
         name: "reader version 3 is read with features that readers know",
         commits: &[&[PROTOCOL_3, METADATA, ADD_A]],
@@ -388,24 +414,6 @@ const CASES: [Case; 30] = [
         code: 0,
         lines: &[SNAPSHOT_1, PROTOCOL, KEPT_A_SECOND],
         fault: "",
-    },
-    Case {
-        name: "a sink that fails at once takes nothing",
-        commits: &[&[PROTOCOL, METADATA, ADD_A]],
-        words: &["show"],
-        fails: Fails::Sink,
-        code: 10,
-        lines: &[],
-        fault: r#"{"sink":{}}"#,
-    },
-    Case {
-        name: "a commit that can't be read is a fault of the store",
-        commits: &[&[PROTOCOL, METADATA, ADD_A]],
-        words: &["show"],
-        fails: Fails::Get,
-        code: 3,
-        lines: &[],
-        fault: r#"{"store":{}}"#,
     },
 ];
 
@@ -483,6 +491,30 @@ fn try_case(
 fn show_answers_each_case(rt: HostRuntime) -> Result<(), Fail> {
     let alloc = rt.alloc();
     for case in &CASES {
+        let Ok(store) = store_of(alloc, case.commits) else {
+            return Err(Fail::from(AllocError));
+        };
+        try_case(&rt, alloc, case, store)?;
+    }
+    Ok(())
+}
+
+#[test]
+fn show_takes_its_words(rt: HostRuntime) -> Result<(), Fail> {
+    let alloc = rt.alloc();
+    for case in &WORDS {
+        let Ok(store) = store_of(alloc, case.commits) else {
+            return Err(Fail::from(AllocError));
+        };
+        try_case(&rt, alloc, case, store)?;
+    }
+    Ok(())
+}
+
+#[test]
+fn show_reads_the_tables_that_it_supports(rt: HostRuntime) -> Result<(), Fail> {
+    let alloc = rt.alloc();
+    for case in &SUPPORT {
         let Ok(store) = store_of(alloc, case.commits) else {
             return Err(Fail::from(AllocError));
         };
