@@ -7,6 +7,7 @@ use dk_handlers::SerdeJson;
 use dk_model::{Action, Commit, Text};
 use dk_store::{Call, Fault, How, MemStore, Store};
 use std::alloc::{AllocError, Global};
+use std::process::Abort;
 use std::test::Fail;
 
 const PROTOCOL: &str = "{\"protocol\":{\"minReaderVersion\":1,\"minWriterVersion\":1}}\n";
@@ -186,7 +187,7 @@ const DOMAIN: &str =
 
 const SMALL: &str = "{\"add\":{\"modificationTime\":5,\"path\":\"s\",\"size\":-1}}\n";
 
-const TRIED: [Tried; 29] = [
+const TRIED: [Tried; 10] = [
     Tried {
         name: "no protocol",
         before: &[],
@@ -247,6 +248,9 @@ const TRIED: [Tried; 29] = [
         lines: &[V2_FOR_READERS],
         rule: 5,
     },
+];
+
+const TRIED_NEXT: [Tried; 10] = [
     Tried {
         name: "a version that falls",
         before: &[PROTOCOL_2, METADATA],
@@ -307,6 +311,9 @@ const TRIED: [Tried; 29] = [
         lines: &[REMOVE_A],
         rule: 7,
     },
+];
+
+const TRIED_LAST: [Tried; 9] = [
     Tried {
         name: "the same where the setting goes",
         before: &[PROTOCOL_2, APPENDED, ADD_A],
@@ -363,23 +370,47 @@ const TRIED: [Tried; 29] = [
     },
 ];
 
+/// Commits these lines, and compares how it ends.
+fn try_commit(rt: &impl Abort, alloc: Global, tried: &Tried) -> Result<(), Fail> {
+    let name = tried.name;
+    let mut store = MemStore::new(alloc);
+    if !tried.before.is_empty() {
+        let first = joined(alloc, tried.before)?;
+        let _ = store.put_new(FIRST, &first, 0);
+    }
+    let end = commit_lines(alloc, &mut store, tried.lines)?;
+    let expected = match (tried.rule, tried.before.is_empty()) {
+        (0, true) => End::Version(0),
+        (0, false) => End::Version(1),
+        (rule, _) => End::Broken(rule),
+    };
+    assert_eq!(rt; end, expected, "{name}");
+    Ok(())
+}
+
 #[test]
 fn the_first_broken_rule_is_answered(rt: HostRuntime) -> Result<(), Fail> {
     let alloc = rt.alloc();
     for tried in &TRIED {
-        let name = tried.name;
-        let mut store = MemStore::new(alloc);
-        if !tried.before.is_empty() {
-            let first = joined(alloc, tried.before)?;
-            let _ = store.put_new(FIRST, &first, 0);
-        }
-        let end = commit_lines(alloc, &mut store, tried.lines)?;
-        let expected = match (tried.rule, tried.before.is_empty()) {
-            (0, true) => End::Version(0),
-            (0, false) => End::Version(1),
-            (rule, _) => End::Broken(rule),
-        };
-        assert_eq!(rt; end, expected, "{name}");
+        try_commit(&rt, alloc, tried)?;
+    }
+    Ok(())
+}
+
+#[test]
+fn the_first_broken_rule_is_answered_of_the_next(rt: HostRuntime) -> Result<(), Fail> {
+    let alloc = rt.alloc();
+    for tried in &TRIED_NEXT {
+        try_commit(&rt, alloc, tried)?;
+    }
+    Ok(())
+}
+
+#[test]
+fn the_first_broken_rule_is_answered_of_the_last(rt: HostRuntime) -> Result<(), Fail> {
+    let alloc = rt.alloc();
+    for tried in &TRIED_LAST {
+        try_commit(&rt, alloc, tried)?;
     }
     Ok(())
 }
