@@ -20,6 +20,7 @@ use Rattle.dk_lawful.specs.Lawful.{Lawful}
 use Rattle.dk_lawful.specs.Example.{first_text, first_actions, second_text, second_actions, example}
 use Rattle.dk_lawful.specs.MoreExamples.{IsLawfulAfter, compacting, side_name}
 use Rattle.dk_lawful.specs.CheckpointExample.{mark_text_0, mark_text_1, side_text, older_text, older_actions, whole_text, whole_actions, lacking_text, lacking_actions, naming_text, naming_actions, checkpointing, clearing}
+use Rattle.dk_lawful.proofs.SegmentsAgree.{agrees_itself}
 use Rattle.dk_lawful.proofs.OnTexts.{commits_on_literals}
 use Rattle.dk_lawful.proofs.OneMeaning.{one_value}
 use Rattle.dk_lawful.proofs.Standing.{found_made, kept_made, kept_deleted, made_here}
@@ -60,17 +61,6 @@ pub names_these : (bytes : List ℕ) (actions : List Action) (names : List (List
 names_these bytes actions names top means named has =
     one_value (sidecars_of actions) top.sidecars names (ap sidecars_of (sym (has_these bytes actions top means has)) ∙ has.named) named
 
-agrees_with_itself : (state : TableState) (horizon : ℤ) → Agree state state horizon
-agrees_with_itself state horizon = record {
-  protocol = refl;
-  metadata = refl;
-  files = refl;
-  applications = refl;
-  domains = refl;
-  none_more = λ path time is. is;
-  unexpired = λ path time is above. is;
-}
-
 -- a checkpoint of this form that names no sidecar
 makes_json : (events : List Told) (version id : ℕ) (bytes : List ℕ) (actions : List Action) (horizon : ℤ) → AtMostPublished events version → commit_of bytes ≡ Some actions
     → filter_map version_in actions ≡ version ∷ [] → sidecars_of actions ≡ Some [] → steps empty_state (actions ++ []) ≡ table_at events version
@@ -81,7 +71,7 @@ makes_json events version id bytes actions horizon published means versions alon
   means = (record { means = means; named = alone }, versions);
   sides = [];
   sides_mean = refl;
-  stands = subst (λ (state : TableState). Agree (steps empty_state (actions ++ [])) state horizon) leads (agrees_with_itself (steps empty_state (actions ++ [])) horizon);
+  stands = subst (λ (state : TableState). Agree (steps empty_state (actions ++ [])) state horizon) leads (agrees_itself (steps empty_state (actions ++ [])) horizon);
   named = λ name (top, has, among). absurd (let no : ⊥ = subst (Among name) (names_these bytes actions [] top means alone has.0) among in no);
 }
 

@@ -89,7 +89,7 @@ pub agree_steps : (state whole : TableState) (horizon : ℤ) (actions : List Act
 agree_steps state whole horizon [] agree = agree
 agree_steps state whole horizon (a ∷ actions) agree = agree_steps (step state a) (step whole a) horizon actions (agree_step state whole horizon a agree)
 
-agrees_itself : (state : TableState) (horizon : ℤ) → Agree state state horizon
+pub agrees_itself : (state : TableState) (horizon : ℤ) → Agree state state horizon
 agrees_itself state horizon = record {
   protocol = refl;
   metadata = refl;

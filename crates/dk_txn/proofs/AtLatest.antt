@@ -1,5 +1,5 @@
 -- What a commit of a transaction comes to that began at the latest version, where nothing came since.
-use Rattle.std.proofs.Common.{◌≡◌, ℕ, ℤ, ◌+◌, ◌<◌, ◌^◌, Bool, true, false, List, [], ◌++◌, length, nat_lt, refl, ap, ap₂, sym, subst, ◌∙◌, arith, if◌then◌else◌}
+use Rattle.std.proofs.Common.{◌≡◌, ℕ, ℤ, ◌+◌, ◌<◌, ◌^◌, Bool, true, false, List, [], ◌++◌, nat_lt, refl, ap, ap₂, sym, subst, ◌∙◌, arith, if◌then◌else◌}
 use Rattle.std.specs.Prelude.{Option, Some, None, Result, Ok, Err, IfSome, ◌==◌}
 use Rattle.std.proofs.lemmas.Bool.{le-ltb}
 use Rattle.dk_store.specs.Told.{Told}
@@ -21,7 +21,7 @@ use Rattle.dk_listing.specs.OfEvents.{stands_at, latest}
 use Rattle.dk_segment.specs.Chosen.{chosen}
 use Rattle.dk_snapshot.specs.declared.table.Snapshot.{Snapshot}
 use Rattle.dk_snapshot.specs.Opening.{usual_choice, opened, opened_chosen, snapshot_with, state_of, with_cut}
-use Rattle.dk_snapshot.specs.Steps.{commits_of, fits, oldest_path}
+use Rattle.dk_snapshot.specs.Steps.{commits_of, oldest_path}
 use Rattle.dk_snapshot.specs.Support.{cut_of, cut_with}
 use Rattle.dk_txn.specs.declared.commit.Committed.{Committed}
 use Rattle.dk_txn.specs.declared.start.Start.{Start}
@@ -29,8 +29,10 @@ use Rattle.dk_txn.specs.declared.transaction.Transaction.{Transaction}
 use Rattle.dk_txn.specs.Attempt.{last_version, after_snapshot, start_after, start, own_commit, commit_text, allowed, Writing, if_allowed, if_within, attempt_from, attempt}
 use Rattle.dk_txn.specs.Commits.{Commits, SaysHistory}
 use Rattle.dk_txn.specs.Transactions.{Outcome, if_headed, headed, oldest_of, and_also, rules_keep, may_come, to_write, outcome_after, outcome_at, reached_at, next_after, outcome, Concludes, Comes, ConcludesHistory}
-use Rattle.dk_txn.proofs.Next.{attempt_next, within_is}
-use Rattle.dk_txn.proofs.Preparing.{none_reached, other_if}
+use Rattle.dk_txn.proofs.Concluding.{at_version}
+use Rattle.dk_txn.proofs.Next.{attempt_next}
+use Rattle.dk_txn.proofs.Preparing.{none_reached}
+use Rattle.dk_txn.proofs.Starts.{not_chosen}
 use Rattle.dk_txn.proofs.ReadHistory.{opened_reads}
 
 -- ---- a table that was opened has begun
@@ -118,7 +120,7 @@ at_latest events limits t now starts small =
     let may : may_come t t.from None ≡ allowed t.from t.actions.items t.id =
     ap (λ (heads : Result (Unit {0}) Refusal). and_also heads (rules_keep t t.from None)) (at.heads (oldest_of t.segment)) ∙ only_rules (allowed t.from t.actions.items t.id) in
     ap (outcome_at events limits t now) at.next
-    ∙ other_if (nat_lt last_version t.from.version) (Err (refusals.Limit which.Version last_version)) (outcome_after t limits now t.from.version (reached_at events limits t t.from.version)) fits
+    ∙ not_chosen (nat_lt last_version t.from.version) (Err (refusals.Limit which.Version last_version)) (outcome_after t limits now t.from.version (reached_at events limits t t.from.version)) fits
     ∙ ap (outcome_after t limits now t.from.version) (none_reached events limits t t.from.version refl)
     ∙ ap (λ (m : Result (Unit {0}) Refusal). to_write (if_allowed m (if_within limits.object (t.from.version, commit_text t.id now t.actions.items)))) may
     ∙ ap (λ (s : Result Start Refusal). to_write (attempted s)) (sym starts)
@@ -148,16 +150,12 @@ module _ (limits : Limits) (now passed : ℤ) (t : Transaction) (own : List Acti
       concludes (attempt events limits own now id) events result later (subst (λ (meant : Result Outcome Refusal). Concludes meant events result later) (comes_to events starts small) did)
 
   -- what it was to write may come next
-  version_is : (may : Result (Unit {0}) Refusal) (text : List ℕ) (version : ℕ) (writing : Writing) → if_allowed may (if_within limits.object (version, text)) ≡ Ok writing → writing.0 ≡ version
-  version_is (Err refusal) text version writing is = absurd (let no : ◌≡◌ {A = Result Writing Refusal} (Err refusal) (Ok writing) = is in cc)
-  version_is (Ok u) text version writing is = sym (ap (λ (w : Writing). w.0) (within_is (fits limits.object (Some (length text))) (version, text) writing is))
-
   comes : (events : List Told) → start events limits now ≡ Ok t.from → t.from.version < 2 ^ 63 → (meant : Result Writing Refusal) → attempt events limits own now id ≡ meant → Comes (to_write meant) (own_commit id own) events
   comes events starts small (Err refusal) is = tt
   comes events starts small (Ok writing) is =
       let from : if_allowed (allowed t.from own id) (if_within limits.object (t.from.version, commit_text id now own)) ≡ Ok writing =
       ap (λ (s : Result Start Refusal). attempt_from s limits own now id) (sym starts) ∙ is in
-      let at = version_is (allowed t.from own id) (commit_text id now own) t.from.version writing from in
+      let at = at_version (allowed t.from own id) limits.object t.from.version (commit_text id now own) writing from in
       (attempt_next events limits own now id writing (subst (λ (v : ℕ). v < 2 ^ 63) (sym at) small) is).comes
 
   pub begun_comes : (told : Option (List Told)) → t.from.version < 2 ^ 63 → Begun told → IfSome told (λ events. Comes (outcome events limits t passed) (own_commit t.id t.actions.items) events)

@@ -20,14 +20,14 @@ use Rattle.dk_lawful.specs.Ids.{HasId}
 use Rattle.dk_lawful.specs.Lawful.{Lawful}
 use Rattle.dk_lawful.specs.Rules.{first_broken, IsValidNext}
 use Rattle.dk_lawful.proofs.HeadRules.{rules_by_heads}
-use Rattle.dk_lawful.proofs.SegmentsAgree.{agree_steps}
+use Rattle.dk_lawful.proofs.SegmentsAgree.{agree_steps, agrees_itself}
 use Rattle.dk_lawful.proofs.Unmanaged.{goes_on_unmanaged}
 use Rattle.dk_listing.specs.OfEvents.{latest}
 use Rattle.dk_snapshot.specs.LawfulOpens.{last_of}
 use Rattle.dk_snapshot.proofs.LastVersion.{latest_is_last}
 use Rattle.dk_txn.specs.declared.start.Start.{Start}
 use Rattle.dk_txn.specs.declared.transaction.Transaction.{Transaction}
-use Rattle.dk_txn.specs.Attempt.{last_version, verdict, unsupported, own_commit, commit_text, allowed, Writing, if_allowed, if_within}
+use Rattle.dk_txn.specs.Attempt.{last_version, unsupported, own_commit, commit_text, allowed, Writing, if_allowed, if_within}
 use Rattle.dk_txn.specs.Winners.{Since, Own, Others, since}
 use Rattle.dk_txn.specs.Transactions.{come_to, headed, oldest_of, unless_conflict, and_also, may_come, writing_at, Outcome, Stands, Writes, to_write, outcome_after, reached_at, outcome_at, next_after, outcome, Comes}
 use Rattle.dk_txn.specs.TransactionHistory.{IsFit, snapshot_of, own_of}
@@ -35,17 +35,7 @@ use Rattle.dk_txn.specs.WinnerLaws.{AreLater}
 use Rattle.dk_txn.specs.FitLaws.{IsNextOf, FitIsNext, FitComes}
 use Rattle.dk_txn.proofs.Concluding.{is_written, at_version}
 use Rattle.dk_txn.proofs.LawfulWinners.{others_are_later, own_is_had}
-
-agrees_itself : (state : TableState) (horizon : ℤ) → Agree state state horizon
-agrees_itself state horizon = record {
-  protocol = refl;
-  metadata = refl;
-  files = refl;
-  applications = refl;
-  domains = refl;
-  none_more = λ path time is. is;
-  unexpired = λ path time is above. is;
-}
+use Rattle.dk_txn.proofs.Written.{no_rule}
 
 -- the same commits on both sides keep states that agree
 agree_all : (commits : List (List Action)) (state whole : TableState) (horizon : ℤ) → Agree state whole horizon → Agree (steps_of_all state commits) (steps_of_all whole commits) horizon
@@ -130,11 +120,6 @@ module _ (events : List Told) (horizon : ℤ) (lawful : Lawful events horizon) (
 
   -- ---- what is to be written
 
-  no_broken : (name : Option (List ℕ)) (broken : Option ℕ) (u : Unit {0}) → verdict name broken ≡ Ok u → broken ≡ None
-  no_broken (Some name) broken u is = absurd (let no : ◌≡◌ {A = Result (Unit {0}) Refusal} (Err (refusals.Unsupported name)) (Ok u) = is in cc)
-  no_broken None (Some rule) u is = absurd (let no : ◌≡◌ {A = Result (Unit {0}) Refusal} (Err (refusals.Invalid rule)) (Ok u) = is in cc)
-  no_broken None None u is = refl
-
   no_conflict : (conflict : Option (ℕ × Kind)) (u : Unit {0}) → unless_conflict conflict ≡ Ok u → conflict ≡ None
   no_conflict None u is = refl
   no_conflict (Some conflict) u is = absurd (let no : ◌≡◌ {A = Result (Unit {0}) Refusal} (Err (refusals.Conflict conflict.0 conflict.1)) (Ok u) = is in cc)
@@ -149,7 +134,7 @@ module _ (events : List Told) (horizon : ℤ) (lawful : Lawful events horizon) (
   passed from conflict (Ok u) (Err refusal) free writing meant is is_free done = absurd (let no : ◌≡◌ {A = Result Writing Refusal} (Err refusal) (Ok writing) = done in cc)
   passed from conflict (Ok u) (Ok v) (Err refusal) writing meant is is_free done = absurd (let no : ◌≡◌ {A = Result Writing Refusal} (Err refusal) (Ok writing) = done in cc)
   passed from conflict (Ok u) (Ok v) (Ok w) writing meant is is_free done = record {
-    rules = no_broken (unsupported from.before) (first_broken from.before from.version (own_commit t.id t.actions.items)) v is;
+    rules = no_rule (unsupported from.before) (first_broken from.before from.version (own_commit t.id t.actions.items)) v is;
     free = no_conflict conflict w is_free;
   }
 

@@ -7,7 +7,7 @@ use Rattle.dk_model.specs.CommitText.{commit_of}
 use Rattle.dk_engine.specs.declared.limits.Limits.{Limits}
 use Rattle.dk_engine.specs.declared.refusal.Refusal.{Refusal}
 use Rattle.dk_engine.specs.declared.refusal.Refusal.TheVariants as refusals
-use Rattle.dk_lawful.specs.Kept.{IfBoth, KeepsLawful}
+use Rattle.dk_lawful.specs.Kept.{IfBoth, IsSameHistory, KeepsLawful}
 use Rattle.dk_txn.specs.declared.attempt.Writing as written
 use Rattle.dk_txn.specs.declared.commit.Committed.{Committed}
 use Rattle.dk_txn.specs.declared.prepared.Prepared.{Prepared}
@@ -19,14 +19,14 @@ use Rattle.dk_txn.specs.Transactions.{Outcome, Stands, Writes, outcome, prepared
 
 -- ---- nothing was added
 
-nothing_after : (refusal : Refusal) (commit : List Action) (events : List Told) → HistoryAfterRefusal refusal commit events events
-nothing_after refusals.Store commit events = inl refl
-nothing_after refusal commit events = refl
+pub nothing_added : (refusal : Refusal) (commit : List Action) (events later : List Told) → IsSameHistory events later → HistoryAfterRefusal refusal commit events later
+nothing_added refusals.Store commit events later same = inl same
+nothing_added refusal commit events later same = same
 
 nothing_said : (meant : Result Outcome Refusal) (refusal : Refusal) (commit : List Action) (events : List Told) → ConcludesHistory meant commit (Err refusal) events events
 nothing_said (Ok (Stands version)) refusal commit events = tt
-nothing_said (Ok (Writes writing)) refusal commit events = λ horizon lawful. nothing_after refusal commit events
-nothing_said (Err cause) refusal commit events = λ horizon lawful. nothing_after refusal commit events
+nothing_said (Ok (Writes writing)) refusal commit events = λ horizon lawful. nothing_added refusal commit events events refl
+nothing_said (Err cause) refusal commit events = λ horizon lawful. nothing_added refusal commit events events refl
 
 pub refused_says : (told later : Option (List Told)) (limits : Limits) (t : Transaction) (now : ℤ) (refusal : Refusal) (commit : List Action) → later ≡ told
     → IfBoth told later (λ events after. ConcludesHistory (outcome events limits t now) commit (Err refusal) events after)

@@ -29,6 +29,7 @@ use Rattle.dk_txn.specs.Commits.{CommitRefuses, HistoryAfterRefusal}
 use Rattle.dk_txn.specs.Transactions.{Outcome, Stands, Writes, outcome, Concludes, Comes, ConcludesHistory, Remembers}
 use Rattle.dk_txn.specs.TransactionHistory.{actor_of, IsFit, own_of, CommitsOwn, SaysOwn}
 use Rattle.dk_txn.proofs.FitTransactions.{fit_is_next, fit_comes, fit_had, stands_after}
+use Rattle.dk_txn.proofs.Lawfully.{nothing_added}
 
 -- ---- by the history alone
 
@@ -120,10 +121,6 @@ module _ (events later : List Told) (limits : Limits) (t after : Transaction) (n
 
   -- ---- by what it came to
 
-  nothing_added : (refusal : Refusal) → IsSameHistory events later → HistoryAfterRefusal refusal (own_of t) events later
-  nothing_added refusals.Store same = inl same
-  nothing_added refusal same = same
-
   same_told : ◌≡◌ {A = Option (List Told)} (Some later) (Some events) → later ≡ events
   same_told is = cc
 
@@ -162,7 +159,7 @@ module _ (events later : List Told) (limits : Limits) (t after : Transaction) (n
       }
   says_by (Ok (Stands version)) is (Err refusal) answers did said =
       let same = same_history (same_told did.1) in
-      record { lawful = lawful_later; history = nothing_added refusal same; fit = fit_same same (as_before remembers refusal answers) }
+      record { lawful = lawful_later; history = nothing_added refusal (own_of t) events later same; fit = fit_same same (as_before remembers refusal answers) }
   says_by (Ok (Writes writing)) is (Ok committed) answers did said =
       let (at, more) = said horizon lawful in
       let next = fit_is_next events horizon limits t now writing lawful fit is in
@@ -180,7 +177,7 @@ module _ (events later : List Told) (limits : Limits) (t after : Transaction) (n
   says_by (Err cause) is (Ok committed) answers (text, meant, adds) said = absurd (let no : ◌≡◌ {A = Result Writing Refusal} (Err cause) (Ok (committed.version, text)) = meant in cc)
   says_by (Err cause) is (Err refusal) answers did said =
       let same = same_history (refused_same refusal cause did) in
-      record { lawful = lawful_later; history = nothing_added refusal same; fit = fit_same same (as_before remembers refusal answers) }
+      record { lawful = lawful_later; history = nothing_added refusal (own_of t) events later same; fit = fit_same same (as_before remembers refusal answers) }
 
 -- ---- the whole
 

@@ -1,5 +1,5 @@
 -- What a commit of a transaction comes to, by its parts, over a store that may tell its events.
-use Rattle.std.proofs.Common.{◌≡◌, ℕ, ℤ, ◌-◌, Bool, true, false, List, ◌∷◌, nat_lt, refl, ap, ap₂, sym, subst, ◌∙◌, arith, if◌then◌else◌}
+use Rattle.std.proofs.Common.{◌≡◌, ℕ, ℤ, ◌-◌, true, false, List, ◌∷◌, nat_lt, refl, ap, ap₂, sym, subst, ◌∙◌, arith}
 use Rattle.std.specs.Prelude.{Option, Some, None, Result, Ok, Err, IfSome}
 use Rattle.std.specs.List.{AllByRecursion}
 use Rattle.dk_store.specs.Told.{Told}
@@ -29,6 +29,7 @@ use Rattle.dk_txn.specs.declared.transaction.Transaction.{Transaction}
 use Rattle.dk_txn.specs.declared.winners.Winners.{Winners}
 use Rattle.dk_txn.specs.declared.winners.Found.{Found}
 use Rattle.dk_txn.specs.declared.winners.Found.TheVariants as founds
+use Rattle.dk_txn.proofs.Starts.{chosen, not_chosen}
 use Rattle.dk_txn.proofs.Written.{allowed_reads}
 use Rattle.dk_txn.specs.Attempt.{last_version, own_commit, commit_text, allowed, Writing, if_allowed, if_within}
 use Rattle.dk_txn.specs.Winners.{Since, Own, Others, gone, or_gone, since_steps, since_sources, sources, commit_at, AreWinners}
@@ -133,14 +134,6 @@ after_others view (Some events) limits t now passed next state after found sizes
 
 -- ---- by the listing
 
-chosen_if : {X : Type 0} (test : Bool) (one other : X) → test ≡ true → (if test then one else other) ≡ one
-chosen_if true one other is = refl
-chosen_if false one other is = absurd (let no : false ≡ true = is in cc)
-
-pub other_if : {X : Type 0} (test : Bool) (one other : X) → test ≡ false → (if test then one else other) ≡ other
-other_if true one other is = absurd (let no : true ≡ false = is in cc)
-other_if false one other is = refl
-
 module _ (limits : Limits) (t : Transaction) (now : ℤ) (listing : Catalogued) (last : Option ℕ) (next : ℕ) (is_latest : last ≡ latest_of listing) (is_next : next ≡ next_after t.from.version last) where
   outcome_is : (events : List Told) → IsListingOf events listing → outcome events limits t now ≡ outcome_at events limits t now next
   outcome_is events is = ap (outcome_at events limits t now) (ap (next_after t.from.version) (sym (latest_standing events listing is) ∙ sym is_latest) ∙ sym is_next)
@@ -149,7 +142,7 @@ module _ (limits : Limits) (t : Transaction) (now : ℤ) (listing : Catalogued) 
       → IfSome told (λ events. IsListingOf events listing → outcome events limits t now ≡ Err (refusals.Limit which.Version last_version))
   no_next None above = tt
   no_next (Some events) above = λ is.
-      outcome_is events is ∙ chosen_if (nat_lt last_version next) (Err (refusals.Limit which.Version last_version)) (outcome_after t limits now next (reached_at events limits t next)) above
+      outcome_is events is ∙ chosen (nat_lt last_version next) (Err (refusals.Limit which.Version last_version)) (outcome_after t limits now next (reached_at events limits t next)) above
 
   pub listed_next : {X : Type 0} (view : X → Outcome) (told : Option (List Told)) (passed : ℤ) (result : Result X Refusal) → passed ≡ now → nat_lt last_version next ≡ false
       → IfSome told (λ events. IsListingOf events listing → Gives view result (outcome_after t limits passed next (reached_at events limits t next)))
@@ -158,7 +151,7 @@ module _ (limits : Limits) (t : Transaction) (now : ℤ) (listing : Catalogued) 
   listed_next view (Some events) passed result moment within means = λ is.
       gives_same view result (outcome_after t limits passed next (reached_at events limits t next)) (outcome events limits t now)
       (ap (λ (n : ℤ). outcome_after t limits n next (reached_at events limits t next)) moment
-      ∙ sym (other_if (nat_lt last_version next) (Err (refusals.Limit which.Version last_version)) (outcome_after t limits now next (reached_at events limits t next)) within)
+      ∙ sym (not_chosen (nat_lt last_version next) (Err (refusals.Limit which.Version last_version)) (outcome_after t limits now next (reached_at events limits t next)) within)
       ∙ sym (outcome_is events is)) (means is)
 
 -- ---- by a survey

@@ -24,11 +24,11 @@ use Rattle.dk_txn.specs.Attempt.{last_version, after_snapshot, start_after, star
 abbrev from_parts : ℕ → TableState → Result Start Refusal
 from_parts version before = Ok (record { version = version; before = before })
 
-chosen : {X : Type 0} (test : Bool) (one other : X) → test ≡ true → (if test then one else other) ≡ one
+pub chosen : {X : Type 0} (test : Bool) (one other : X) → test ≡ true → (if test then one else other) ≡ one
 chosen true one other is = refl
 chosen false one other is = absurd (true≢false (sym is))
 
-not_chosen : {X : Type 0} (test : Bool) (one other : X) → test ≡ false → (if test then one else other) ≡ other
+pub not_chosen : {X : Type 0} (test : Bool) (one other : X) → test ≡ false → (if test then one else other) ≡ other
 not_chosen true one other is = absurd (true≢false is)
 not_chosen false one other is = refl
 

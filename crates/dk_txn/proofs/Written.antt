@@ -29,7 +29,7 @@ use Rattle.dk_txn.proofs.Readable.{valid_reads}
 
 -- ---- what is to be written
 
-no_rule : (name : Option (List ℕ)) (broken : Option ℕ) (u : Unit {0}) → verdict name broken ≡ Ok u → broken ≡ None
+pub no_rule : (name : Option (List ℕ)) (broken : Option ℕ) (u : Unit {0}) → verdict name broken ≡ Ok u → broken ≡ None
 no_rule (Some name) broken u is = cc
 no_rule None (Some rule) u is = cc
 no_rule None None u is = refl

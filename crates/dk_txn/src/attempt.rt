@@ -1,5 +1,5 @@
 //! What a commit is to write.
-ghost use Rattle.std.specs.Prelude.{◌≡◌, ◌≤◌, ◌<◌, ◌^◌, ℕ, List, Ok, Err, Some, IfOk, IfSome};
+ghost use Rattle.std.specs.Prelude.{◌≡◌, ℕ, List, Ok, Err, Some, IfOk};
 ghost use Rattle.dk_engine.specs.Answers.{Gives};
 ghost use Rattle.dk_txn.specs.Attempt.{unsupported, allowed, if_within};
 

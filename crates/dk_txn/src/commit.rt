@@ -1,13 +1,11 @@
 //! What is written of a commit.
-ghost use Rattle.std.specs.Prelude.{◌≡◌, ◌≢◌, ◌≤◌, ◌<◌, ◌^◌, ℕ, ℤ, List, Ok, Err, Some, IfSome, IsErrOf, IsNone, is_some};
+ghost use Rattle.std.specs.Prelude.{◌≡◌, ◌≤◌, ◌<◌, ◌^◌, ℕ, List, Ok, Err, Some, IfSome, IsErrOf, IsNone, is_some};
 ghost use Rattle.dk_store.specs.Causes.{Rose};
 ghost use Rattle.dk_store.specs.Objects.{object};
 ghost use Rattle.dk_store.specs.Writing.{PutsNew};
 ghost use Rattle.dk_model.specs.declared.action.Action.{Action};
 ghost use Rattle.dk_model.specs.CommitText.{commit_of};
 ghost use Rattle.dk_paths.specs.Names.{commit_path};
-ghost use Rattle.dk_lawful.specs.Lawful.{Lawful};
-ghost use Rattle.dk_lawful.specs.Permits.{IsNextCommit};
 ghost use Rattle.dk_lawful.specs.Kept.{IfBoth, KeepsLawful};
 ghost use Rattle.dk_txn.specs.Commits.{ComesNext, Commits, SaysHistory};
 

@@ -214,9 +214,13 @@ impl Transaction {
     /// Beside faults of the store and want of memory it is refused, in this order: `Limit` of `Version` where no version can
     /// follow the latest or the snapshot's, `WinnersGone` of the first version whose commit isn't listed, of the first winner
     /// that can't be read `Limit` of `Object` or `Damaged`, `Damaged` of the oldest object as a whole where the table has
-    /// no protocol or no metadata, `Unsupported` of what the table asks of a writer, `Invalid` where a rule is broken,
+    /// no protocol or no metadata, `Unsupported` of what the table asks for that isn't read or isn't written, `Invalid` where a rule is broken,
     /// `Conflict` with the first winner that is in the way, `Limit` of `Object` where the text is greater than
     /// `limits.object` bytes, `Taken` where two other writers were there first.
+    ///
+    /// `commits` says all this of the events of a told store, and `own` in the words of those who are at work on a table: on a
+    /// lawful log, with the transaction fit, Ok says that its commit stood there already, or is the one commit more; the rules
+    /// held there and no winner was in the way; the log stays lawful, and the transaction fit.
     pub fn commit(
         &mut self,
         alloc: Global,
