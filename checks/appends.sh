@@ -1,17 +1,11 @@
 #!/usr/bin/env bash
 # Twenty processes, each of which appends to one table in a loop until all its commits are acknowledged. Each acknowledged
 # commit stands exactly once, at its version, and there are no others.
-set -u
-cd "$(dirname "${BASH_SOURCE[0]}")/.." || exit 1
-program=$PWD/crates/deltak/out/deltak
-[ -x "$program" ] || { echo "$program isn't there: run rt ci first"; exit 1; }
-work=$(mktemp -d)
-trap 'rm -rf "$work"' EXIT
-failed=0
-fail() { echo "$1"; failed=$((failed + 1)); }
+. "$(dirname "${BASH_SOURCE[0]}")/harness.bash"
 
 processes=20
 each=5
+tries=500
 table=$work/table
 mkdir "$table"
 printf '%s\n%s\n' '{"protocol":{"minReaderVersion":1,"minWriterVersion":2}}' '{"metaData":{"id":"t","schemaString":"{}"}}' |
@@ -21,17 +15,18 @@ printf '%s\n%s\n' '{"protocol":{"minReaderVersion":1,"minWriterVersion":2}}' '{"
 append() {
     for number in $(seq "$each"); do
         path=file-$1-$number
-        while true; do
+        status=3
+        for _ in $(seq "$tries"); do
             printf '{"add":{"path":"%s","size":1,"modificationTime":5}}\n' "$path" |
                 "$program" "$table" commit >"$work/answer-$1" 2>"$work/error-$1"
             status=$?
             echo "$status" >>"$work/tries-$1"
             case $status in
-                0) break ;;
                 3 | 14) sleep "0.0$((RANDOM % 9 + 1))" ;;
-                *) echo "$path: status $status: $(cat "$work/error-$1")" >>"$work/refused"; return ;;
+                *) break ;;
             esac
         done
+        [ "$status" -eq 0 ] || { echo "$path: status $status: $(cat "$work/error-$1")" >>"$work/refused"; return; }
         echo "$(sed -n 's/^{"committed":{"version":\([0-9]*\)}}$/\1/p' "$work/answer-$1") $path" >>"$work/made-$1"
     done
 }

@@ -1,14 +1,7 @@
 #!/usr/bin/env bash
 # Commits over a real folder: the table that the README's words make, twenty programs at once, a writer that takes no lock, and
 # programs that are killed. Each acknowledged commit stands once, at its version, whole; none is overwritten.
-set -u
-cd "$(dirname "${BASH_SOURCE[0]}")/.." || exit 1
-program=$PWD/crates/deltak/out/deltak
-[ -x "$program" ] || { echo "$program isn't there: run rt ci first"; exit 1; }
-work=$(mktemp -d)
-trap 'rm -rf "$work"' EXIT
-failed=0
-fail() { echo "$1"; failed=$((failed + 1)); }
+. "$(dirname "${BASH_SOURCE[0]}")/harness.bash"
 
 protocol='{"protocol":{"minReaderVersion":1,"minWriterVersion":1}}'
 metadata='{"metaData":{"id":"t","schemaString":"{}"}}'

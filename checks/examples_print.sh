@@ -1,9 +1,6 @@
 #!/usr/bin/env bash
 # Each example table prints what the README shows: the block behind a line "$ ./deltak examples/NAME show" is its output.
-set -u
-cd "$(dirname "${BASH_SOURCE[0]}")/.." || exit 1
-program=crates/deltak/out/deltak
-[ -x "$program" ] || { echo "$program isn't there: run rt ci first"; exit 1; }
+. "$(dirname "${BASH_SOURCE[0]}")/harness.bash"
 status=0
 shown=0
 for folder in examples/*/; do

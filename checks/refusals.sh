@@ -1,14 +1,8 @@
 #!/usr/bin/env bash
 # What the program itself adds to the proved top call: exit statuses, the one line on standard error and nothing on
 # standard output, for real folders that are absent, empty, unreadable or damaged.
-set -u
-cd "$(dirname "${BASH_SOURCE[0]}")/.." || exit 1
-program=$PWD/crates/deltak/out/deltak
-[ -x "$program" ] || { echo "$program isn't there: run rt ci first"; exit 1; }
-work=$(mktemp -d)
-trap 'rm -rf "$work"' EXIT
+. "$(dirname "${BASH_SOURCE[0]}")/harness.bash"
 tried=0
-failed=0
 
 # expect NAME STATUS LINE WORDS..: runs the program on the words
 expect() {
