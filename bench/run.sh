@@ -1,5 +1,6 @@
 #!/bin/sh
 # bench/run.sh WHAT: measures library calls by the proved program dk_bench, and prints the times. WHAT is
+#   conflicts  finding that none of up to 1,000 commits is in the way of one with 10,000 paths: the time of each action and path
 #   footers  reading footers of up to 1,000 columns and 100 row groups, and of 10,000 columns: the time for each byte
 #   pages    finding and splitting pages of many sizes: the time of one page
 #   runs     decoding runs of ten million levels, beside a plain Rust loop: the time of one decoding by each
@@ -9,7 +10,7 @@ set -eu
 here=$(dirname -- "$(readlink -f -- "$0")")
 crate=$here/../crates/dk_bench
 if [ $# -ne 1 ] || [ ! -f "$here/$1.py" ] || [ "$1" = measure ]; then
-    sed -n '2,5s/^# //p' "$0" >&2
+    sed -n '2,6s/^# //p' "$0" >&2
     exit 2
 fi
 work=$(mktemp -d)

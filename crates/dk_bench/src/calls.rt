@@ -1,16 +1,18 @@
 //! The words, and the calls that they name.
 
+use crate::conflicts::find_conflicts;
 use dk_hybrid::{HybridFault, decode};
+use dk_model::LineFault;
 use dk_pages::next_page;
 use dk_pqmeta::read_footer;
 use dk_pqmodel::PqFault;
-use std::alloc::{AllocGlobal, Global};
+use std::alloc::{AllocError, AllocGlobal, Global};
 use std::rt::Env;
 use std::{env, fs, io};
 
 /// Why there is nothing to print.
 #[derive(Drop, Debug)]
-enum Trouble {
+pub(crate) enum Trouble {
     /// The words are no call.
     Usage,
     /// A file can't be read, or the line can't be written.
@@ -19,6 +21,10 @@ enum Trouble {
     Runs(HybridFault),
     /// The bytes have no footer of a Parquet file, or no pages.
     Parquet(PqFault),
+    /// A line of the text is no action.
+    Line(LineFault),
+    /// There is no memory for the call.
+    OutOfMemory,
 }
 
 impl From<io::Error> for Trouble {
@@ -36,6 +42,18 @@ impl From<HybridFault> for Trouble {
 impl From<PqFault> for Trouble {
     fn from(fault: PqFault) -> Self {
         Trouble::Parquet(fault)
+    }
+}
+
+impl From<LineFault> for Trouble {
+    fn from(fault: LineFault) -> Self {
+        Trouble::Line(fault)
+    }
+}
+
+impl From<AllocError> for Trouble {
+    fn from(_: AllocError) -> Self {
+        Trouble::OutOfMemory
     }
 }
 
@@ -119,6 +137,7 @@ fn try_call(rt: &HostRuntime) -> Result<(), Trouble> {
         "runs" => decode_runs(rt.alloc(), &bytes, &wanted)?,
         "footer" => read_footers(rt.alloc(), &bytes, &wanted)?,
         "pages" => read_pages(&bytes, &wanted)?,
+        "conflicts" => find_conflicts(rt.alloc(), &bytes, wanted.count, wanted.times)?,
         _ => return Err(Trouble::Usage),
     };
     println!(rt; "{total}")?;

@@ -3,6 +3,7 @@
 #![tactic(auto)]
 
 mod calls;
+mod conflicts;
 
 use std::process::ExitCode;
 

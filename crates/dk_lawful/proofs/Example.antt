@@ -43,7 +43,7 @@ none_is_none : (bytes : List ℕ) (actions : List Action) → commit_of bytes �
 none_is_none bytes actions none some = let no : ◌≡◌ {A = Option (List Action)} None (Some actions) = sym none ∙ some in cc
 
 -- the history after one object
-history_one : (bytes : List ℕ) (actions : List Action) → commit_of bytes ≡ Some actions → history (Made (commit_path 0) bytes (pos 0) ∷ []) ≡ by_file actions ∷ []
+pub history_one : (bytes : List ℕ) (actions : List Action) → commit_of bytes ≡ Some actions → history (Made (commit_path 0) bytes (pos 0) ∷ []) ≡ by_file actions ∷ []
 unfolding rules_on_literals
 history_one bytes actions means =
     ap (λ (place : Place). after_made [] place bytes) (commit_place 0 (omega arith))
@@ -53,7 +53,7 @@ first_history : history (first_event ∷ []) ≡ by_file first_actions ∷ []
 first_history = history_one first_text first_actions first_means
 
 -- a commit that is valid after this history
-adds : (events : List Told) (h : List RatifiedCommit) (version : ℕ) (bytes : List ℕ) (actions : List Action) → history events ≡ h → version ≡ length h
+pub adds : (events : List Told) (h : List RatifiedCommit) (version : ℕ) (bytes : List ℕ) (actions : List Action) → history events ≡ h → version ≡ length h
     → is_managed (state_of h) ≡ false → first_broken (state_of h) version actions ≡ None → commit_of bytes ≡ Some actions → AddsCommit events version bytes
 adds events h version bytes actions is next unmanaged valid means = (
   actions,
@@ -74,7 +74,7 @@ unfolding rules_on_literals
 second_adds = adds (first_event ∷ []) (by_file first_actions ∷ []) 1 second_text second_actions first_history refl refl refl second_means
 
 -- it may be made at its path on a lawful log
-permitted : (events : List Told) (horizon : ℤ) (version : ℕ) (bytes : List ℕ) (stamp : ℤ) → version < 2 ^ 63 → Lawful events horizon → AddsCommit events version bytes
+pub permitted : (events : List Told) (horizon : ℤ) (version : ℕ) (bytes : List ℕ) (stamp : ℤ) → version < 2 ^ 63 → Lawful events horizon → AddsCommit events version bytes
     → Permits events (Made (commit_path version) bytes stamp) horizon
 permitted events horizon version bytes stamp small lawful may = (
   next_is_free events horizon version lawful may.2.next small,
@@ -95,7 +95,7 @@ example_history =
     ∙ ap (λ l. l ++ by_file second_actions ∷ []) first_history
 
 -- what a permitted commit has, where nothing stands ratified
-may_add : (events : List Told) (horizon : ℤ) (version : ℕ) (bytes : List ℕ) (stamp : ℤ) → version < 2 ^ 63 → standing events version ≡ None
+pub may_add : (events : List Told) (horizon : ℤ) (version : ℕ) (bytes : List ℕ) (stamp : ℤ) → version < 2 ^ 63 → standing events version ≡ None
     → Permits events (Made (commit_path version) bytes stamp) horizon → AddsCommit events version bytes
 may_add events horizon version bytes stamp small none may = elim (at_place may.1) [
   | inl adds ↦ adds
@@ -131,7 +131,7 @@ unreadable horizon may =
     none_is_none (codes "{") add.0 unreadable_text add.1
 
 -- a commit that breaks a rule after this history
-broken : (events : List Told) (h : List RatifiedCommit) (version rule : ℕ) (bytes : List ℕ) (actions : List Action) → history events ≡ h
+pub broken : (events : List Told) (h : List RatifiedCommit) (version rule : ℕ) (bytes : List ℕ) (actions : List Action) → history events ≡ h
     → first_broken (state_of h) version actions ≡ Some rule → commit_of bytes ≡ Some actions → AddsCommit events version bytes → ⊥
 broken events h version rule bytes actions is breaks means may =
     let same : may.0 ≡ actions = (let both : Some may.0 ≡ Some actions = sym may.1 ∙ means in cc) in
@@ -160,7 +160,7 @@ unfolding commits_on_literals shrinking_text
 shrinking_means = refl
 
 -- a commit that breaks a rule after the example
-breaks : (rule : ℕ) (bytes : List ℕ) (actions : List Action) → first_broken (state_of (by_file first_actions ∷ by_file second_actions ∷ [])) 2 actions ≡ Some rule
+pub breaks : (rule : ℕ) (bytes : List ℕ) (actions : List Action) → first_broken (state_of (by_file first_actions ∷ by_file second_actions ∷ [])) 2 actions ≡ Some rule
     → commit_of bytes ≡ Some actions → IsForbidden example (Made (commit_path 2) bytes (pos 2))
 breaks rule bytes actions is means horizon may =
     broken example (by_file first_actions ∷ by_file second_actions ∷ []) 2 rule bytes actions example_history is means (may_add example horizon 2 bytes (pos 2) (omega arith) refl may)

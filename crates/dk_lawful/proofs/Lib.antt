@@ -1,3 +1,4 @@
+pub mod BrokenRules
 pub mod Calls
 pub mod CheckpointExample
 pub mod CommitPlaces

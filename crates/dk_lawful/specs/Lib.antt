@@ -1,5 +1,6 @@
 pub mod Actors
 pub mod Agree
+pub mod BrokenRules
 pub mod Calls
 pub mod CheckpointExample
 pub mod CheckpointLaws

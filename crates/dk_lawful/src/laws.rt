@@ -1,9 +1,11 @@
 //! The laws of the log, for the crates above. None of these functions does anything when it runs.
 
-ghost use Rattle.std.specs.Prelude.{[], codes, pos, ◌++◌, ◌∷◌, ◌≡◌};
+ghost use Rattle.std.specs.Prelude.{[], codes, pos, ◌++◌, ◌∷◌, ◌≡◌, ℤ};
+ghost use Rattle.dk_lawful.specs.BrokenRules.{appended, applying_text, informing_text, removing_text, settling_text, sidecar_text};
 ghost use Rattle.dk_lawful.specs.Calls.{DeleteKeepsLawful, ForgetKeepsLawful, PutNewKeepsLawful, PutOverKeepsLawful, RatifyKeepsLawful};
 ghost use Rattle.dk_lawful.specs.Example.{ExampleHistory, ExampleIsLawful, IsForbidden, example, first_text, listing_text, managed_actions, managed_text, ratifying, second_actions, second_text, shrinking_text, staging, upgrading_text};
 ghost use Rattle.dk_lawful.specs.History.{by_catalogue, by_file, history};
+ghost use Rattle.dk_lawful.specs.Lawful.{Lawful};
 ghost use Rattle.dk_lawful.specs.Laws.{CommitsStay, CompleteIsPublished, EachCameItsWay, FeaturesStay, FilesStay, FloorIsUpward, GoesOnUnmanaged, GreaterHorizonIsLawful, HistoryGrows, KeptFromFloor, LastIsAvailable, LastIsFromFloor, LastIsPublished, LastPublishedIsOne, LogShowsHistory, LowWriterIsUnmanaged, ManagementStays, NeededStays, NextIsFree, NextIsRatifiedNext, NoneBeyondLast, OneAtATime, PrefixesAreLawful, PublishedStays, PutAddsCommit, PutKeepsLawful, PutLeavesFloor, RatifiedIsManaged, RatifiedStays, ReadLogIsHistory, RulesByHeads, SidecarsStay, StagedCommitIsHistory, StandingCommitIsHistory, TableIsWhole, TakenAddsNothing, UnpublishedIsStaged, WholeLogIsOne, WrittenIsUnmanaged};
 ghost use Rattle.dk_lawful.specs.MoreExamples.{IsLawfulAfter, cleaning, compacting, dropping, forgetting, hinting, staged_event, storing};
 ghost use Rattle.dk_paths.specs.Names.{commit_path};
@@ -168,4 +170,22 @@ pub fn forbidden_events()
     ensures staged_below { IsForbidden example (Made (place_path (Staged 1 7)) second_text (pos 2)) }
     ensures unmanaged { IsForbidden (staged_event ∷ example) (Ratified 2 (staged_name 2 7)) }
     ensures forgotten { IsForbidden example (Forgotten 2) }
+{}
+
+/// Texts that break the rules of a commit which no text above breaks, each an event that may not come.
+pub fn broken_rules()
+    // its writer's word twice, and an action of checkpoints
+    ensures informed_twice { IsForbidden example (Made (commit_path 2) (informing_text ++ informing_text) (pos 2)) }
+    ensures sidecar_named { IsForbidden example (Made (commit_path 2) sidecar_text (pos 2)) }
+
+    // an application or a domain twice
+    ensures application_twice { IsForbidden example (Made (commit_path 2) (applying_text ++ applying_text) (pos 2)) }
+    ensures domain_twice { IsForbidden example (Made (commit_path 2) (settling_text ++ settling_text) (pos 2)) }
+
+    // rows that go from a table that they are only added to, which is a lawful one
+    ensures appended { (horizon : ℤ) → Lawful appended horizon }
+    ensures rows_removed { IsForbidden appended (Made (commit_path 1) removing_text (pos 1)) }
+
+    // a domain without its feature
+    ensures domain_early { IsForbidden example (Made (commit_path 2) settling_text (pos 2)) }
 {}

@@ -1,5 +1,5 @@
 -- Which versions open.
-use Rattle.std.proofs.Common.{◌≡◌, ℕ, ℤ, ◌<◌, ◌≤◌, List, refl, ap, subst, ◌∙◌, Bool}
+use Rattle.std.proofs.Common.{◌≡◌, ℕ, ℤ, ◌<◌, ◌≤◌, List, refl, ap, sym, subst, ◌∙◌, Bool}
 use Rattle.std.specs.Prelude.{Option, Some, None, Result, Ok, Err, if◌then◌else◌}
 use Rattle.std.proofs.lemmas.Bool.{le-leb, lt-leb}
 use Rattle.dk_store.specs.Told.{Told}
@@ -15,7 +15,7 @@ use Rattle.dk_listing.specs.OfEvents.{stands_at, latest}
 use Rattle.dk_segment.specs.Chosen.{unless_gap}
 use Rattle.dk_snapshot.specs.declared.table.Snapshot.{Snapshot}
 use Rattle.dk_snapshot.specs.Asked.{version_asked}
-use Rattle.dk_snapshot.specs.Opening.{snapshot_with, read_of, opened_chosen, opened_asked}
+use Rattle.dk_snapshot.specs.Opening.{snapshot_with, read_of, opened_chosen, opened_version, opened_asked, opened}
 use Rattle.dk_snapshot.specs.KeptVersions.{OpenedIsKept, NotKeptIsMissing}
 
 -- the version of what is answered
@@ -31,6 +31,21 @@ read_at version segment (Ok read) snapshot is = by (ok_same is)
     by : made ≡ snapshot → version ≡ snapshot.version
     by e = ap (λ (s : Snapshot). s.version) e
 read_at version segment (Err refusal) snapshot is = absurd (let fails : ◌≡◌ {A = Result Snapshot Refusal} (Err refusal) (Ok snapshot) = is in cc)
+
+-- it is the one that was opened, and the latest where none is asked for
+pub version_read : (events : List Told) (limits : Limits) (choice : Choice) (now : ℤ) (version : ℕ) (snapshot : Snapshot) → opened_version events limits choice now version ≡ Ok snapshot → version ≡ snapshot.version
+version_read events limits choice now version snapshot is = by (first_gap (stands_at events) (standing events) version choice) is
+  where
+    segment : Segment
+    segment = segment_of (stands_at events) (standing events) version choice
+
+    by : (gap : Option (List ℕ)) → opened_chosen events limits now version (unless_gap segment gap) ≡ Ok snapshot → version ≡ snapshot.version
+    by None opens = read_at version segment (read_of events limits now segment) snapshot opens
+    by (Some path) opens = absurd (let fails : ◌≡◌ {A = Result Snapshot Refusal} (Err (Missing path)) (Ok snapshot) = opens in cc)
+
+pub last_read : (events : List Told) (limits : Limits) (choice : Choice) (now : ℤ) (last : ℕ) (snapshot : Snapshot) → latest events ≡ Some last → opened events limits None choice now ≡ Ok snapshot → last ≡ snapshot.version
+last_read events limits choice now last snapshot top opens =
+    version_read events limits choice now last snapshot (sym (ap (λ (l : Option ℕ). opened_asked events limits choice now (version_asked None l)) top) ∙ opens)
 
 version_kept : (events : List Told) (limits : Limits) (choice : Choice) (now : ℤ) (version : ℕ) (snapshot : Snapshot) (gap : Option (List ℕ)) → first_gap (stands_at events) (standing events) version choice ≡ gap
     → opened_chosen events limits now version (unless_gap (segment_of (stands_at events) (standing events) version choice) gap) ≡ Ok snapshot

@@ -27,11 +27,11 @@ use Rattle.dk_segment.specs.Chosen.{unless_gap}
 use Rattle.dk_snapshot.specs.declared.table.Snapshot.{Snapshot}
 use Rattle.dk_snapshot.specs.Asked.{version_asked}
 use Rattle.dk_snapshot.specs.LawfulOpens.{last_of, AsksVersion, IsKeptBy, segment_by, OpenedIsAsked, OpenedIsTable, HasCut, OpenedHasCut, IsNewestOver, AreWithinLimit, AnswersVersion, KeptIsAnswered, GapIsMissing, AboveIsNoVersion, EmptyIsMissing}
-use Rattle.dk_snapshot.specs.Opening.{with_cut, state_of, read_of, snapshot_with, opened_chosen, opened_version, opened_asked, opened}
+use Rattle.dk_snapshot.specs.Opening.{with_cut, state_of, snapshot_with, opened_chosen, opened_version, opened_asked, opened}
 use Rattle.dk_snapshot.specs.Steps as reading
 use Rattle.dk_snapshot.specs.Steps.{oldest_path}
 use Rattle.dk_snapshot.specs.Support.{retention_key, retention, cut_before, cut_unless, cut_with, cut_of}
-use Rattle.dk_snapshot.proofs.KeptVersions.{above, opened_is_kept, read_at, within}
+use Rattle.dk_snapshot.proofs.KeptVersions.{above, opened_is_kept, version_read, within}
 use Rattle.dk_snapshot.proofs.LastVersion.{latest_is_last}
 use Rattle.dk_snapshot.proofs.LawfulReads.{ReadsTo, reads}
 
@@ -178,21 +178,13 @@ module _ (events : List Told) (horizon : ℤ) (lawful : Lawful events horizon) (
 
   -- ---- what is answered
 
-  -- the version of what is answered is the one that was opened
-  version_read : (version : ℕ) (snapshot : Snapshot) → opened_version events limits choice now version ≡ Ok snapshot → version ≡ snapshot.version
-  version_read version snapshot is = by (first_gap (stands_at events) (standing events) version choice) is
-    where
-      by : (gap : Option (List ℕ)) → opened_chosen events limits now version (unless_gap (segment_by events version choice) gap) ≡ Ok snapshot → version ≡ snapshot.version
-      by None opens = read_at version (segment_by events version choice) (read_of events limits now (segment_by events version choice)) snapshot opens
-      by (Some path) opens = absurd (let fails : ◌≡◌ {A = Result Snapshot Refusal} (Err (Missing path)) (Ok snapshot) = opens in cc)
-
   last_asks : (last : ℕ) (snapshot : Snapshot) → next_version events ≡ suc last → opened_version events limits choice now last ≡ Ok snapshot → snapshot.version + 1 ≡ next_version events
-  last_asks last snapshot is opens = let same : last ≡ snapshot.version = version_read last snapshot opens in omega arith
+  last_asks last snapshot is opens = let same : last ≡ snapshot.version = version_read events limits choice now last snapshot opens in omega arith
 
   at_asks : (asked last : ℕ) (snapshot : Snapshot) (test : Bool) → nat_le asked last ≡ test → next_version events ≡ suc last
       → opened_asked events limits choice now (if test then Ok asked else Err (NoVersion last)) ≡ Ok snapshot → (snapshot.version ≡ asked) × (snapshot.version < next_version events)
   at_asks asked last snapshot true least is opens =
-      let same : asked ≡ snapshot.version = version_read asked snapshot opens in
+      let same : asked ≡ snapshot.version = version_read events limits choice now asked snapshot opens in
       let most : asked ≤ last = leb-true asked last least in
       (sym same, (omega arith))
   at_asks asked last snapshot false least is opens = absurd (let fails : ◌≡◌ {A = Result Snapshot Refusal} (Err (NoVersion last)) (Ok snapshot) = opens in cc)

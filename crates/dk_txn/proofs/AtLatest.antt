@@ -23,6 +23,7 @@ use Rattle.dk_snapshot.specs.declared.table.Snapshot.{Snapshot}
 use Rattle.dk_snapshot.specs.Opening.{usual_choice, opened, opened_chosen, snapshot_with, state_of, with_cut}
 use Rattle.dk_snapshot.specs.Steps.{commits_of, oldest_path}
 use Rattle.dk_snapshot.specs.Support.{cut_of, cut_with}
+use Rattle.dk_snapshot.proofs.KeptVersions.{last_read}
 use Rattle.dk_txn.specs.declared.commit.Committed.{Committed}
 use Rattle.dk_txn.specs.declared.start.Start.{Start}
 use Rattle.dk_txn.specs.declared.transaction.Transaction.{Transaction}
@@ -33,7 +34,6 @@ use Rattle.dk_txn.proofs.Concluding.{at_version}
 use Rattle.dk_txn.proofs.Next.{attempt_next}
 use Rattle.dk_txn.proofs.Preparing.{none_reached}
 use Rattle.dk_txn.proofs.Starts.{not_chosen}
-use Rattle.dk_txn.proofs.ReadHistory.{opened_reads}
 
 -- ---- a table that was opened has begun
 
@@ -85,7 +85,7 @@ started_at events limits now from is = by (latest events) refl is
         let same : ◌≡◌ {A = Result Start Refusal} (Ok (record { version = snapshot.version + 1; before = snapshot.state })) (Ok from) = starts in
         let version : snapshot.version + 1 ≡ from.version = cc in
         let state : snapshot.state ≡ from.before = cc in
-        let found = (opened_reads events limits now last snapshot top opens).version in
+        let found : last ≡ snapshot.version = last_read events limits usual_choice now last snapshot top opens in
         let value : last + 1 ≡ from.version = omega (arith, version, found) in
         record {
           next = ap (next_after from.version) top ∙ omega (arith, value);

@@ -20,8 +20,8 @@ use Rattle.dk_txn.specs.declared.transaction.Transaction.{Transaction}
 use Rattle.dk_txn.specs.Attempt.{last_version, commit_text, Writing, if_allowed, if_within}
 use Rattle.dk_txn.specs.Commits.{Commits}
 use Rattle.dk_txn.specs.Transactions.{Reached, At_own, After, may_come, writing_at, Outcome, Stands, Writes, to_write, outcome_after, reached_at, next_after, outcome, prepared_as, IsSmall, Concludes}
-use Rattle.dk_txn.proofs.NotAbove.{AtMost}
-use Rattle.dk_txn.proofs.Next.{free_above, within_is}
+use Rattle.dk_txn.proofs.NotAbove.{AtMost, free_above}
+use Rattle.dk_txn.proofs.Next.{within_is}
 
 -- ---- the version that is written
 

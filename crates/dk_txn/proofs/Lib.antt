@@ -6,7 +6,6 @@ pub mod LawfulWinners
 pub mod FitTransactions
 pub mod OwnStaysFit
 pub mod NotAbove
-pub mod ReadHistory
 pub mod ReadWinners
 pub mod Preparing
 pub mod Readable

@@ -1,31 +1,34 @@
 -- What a commit comes after is the latest version, so the commit is the next one of the history.
-use Rattle.std.proofs.Common.{◌≡◌, ℕ, ℤ, ◌+◌, ◌<◌, ◌^◌, Bool, true, false, List, [], ◌∷◌, length, refl, ap, sym, subst, ◌∙◌, arith, inl, inr}
+use Rattle.std.proofs.Common.{◌≡◌, ℕ, zero, suc, ℤ, ◌+◌, ◌<◌, ◌^◌, Bool, true, false, List, [], ◌∷◌, length, refl, ap, sym, subst, ◌∙◌, arith}
 use Rattle.std.specs.Prelude.{Option, Some, None, Result, Ok, Err, IsNone, ◌==◌, if◌then◌else◌}
-use Rattle.std.proofs.lemmas.Bool.{cases_lt}
+use Rattle.std.proofs.lemmas.List.{take_all}
 use Rattle.dk_store.specs.Told.{Told}
 use Rattle.dk_store.specs.Objects.{object}
 use Rattle.dk_model.specs.declared.action.Action.{Action}
-use Rattle.dk_model.specs.State.{empty_state}
+use Rattle.dk_model.specs.State.{empty_state, fold}
 use Rattle.dk_paths.specs.Names.{commit_path}
 use Rattle.dk_engine.specs.declared.limits.Limits.{Limits}
 use Rattle.dk_engine.specs.declared.limits.Which.TheVariants as which
 use Rattle.dk_engine.specs.declared.refusal.Refusal.{Refusal}
 use Rattle.dk_engine.specs.declared.refusal.Refusal.TheVariants as refusals
 use Rattle.dk_lawful.specs.Managed.{is_managed}
-use Rattle.dk_lawful.specs.History.{RatifiedCommit, history, next_version, state_of, table}
+use Rattle.dk_lawful.specs.History.{RatifiedCommit, commits_of, history, next_version, state_of, table, table_at}
 use Rattle.dk_lawful.specs.Lawful.{Lawful}
 use Rattle.dk_lawful.specs.Rules.{first_broken, IsValidNext}
+use Rattle.dk_lawful.proofs.Sound.{length_commits}
 use Rattle.dk_lawful.proofs.Unmanaged.{goes_on_unmanaged}
 use Rattle.dk_listing.specs.OfEvents.{latest}
 use Rattle.dk_snapshot.specs.declared.table.Snapshot.{Snapshot}
 use Rattle.dk_snapshot.specs.Opening.{usual_choice, opened}
-use Rattle.dk_snapshot.specs.Plan.{stands}
+use Rattle.dk_snapshot.specs.LawfulOpens.{last_of}
 use Rattle.dk_snapshot.specs.Steps.{fits, if_fits}
+use Rattle.dk_snapshot.proofs.KeptVersions.{last_read}
+use Rattle.dk_snapshot.proofs.LastVersion.{latest_is_last}
+use Rattle.dk_snapshot.proofs.LawfulOpens.{opened_is_asked, opened_is_table}
 use Rattle.dk_txn.specs.declared.start.Start.{Start}
 use Rattle.dk_txn.specs.Attempt.{last_version, after_snapshot, start_after, start, unsupported, verdict, own_commit, commit_text, Writing, if_allowed, if_within, attempt_from, attempt}
 use Rattle.dk_txn.specs.Commits.{ComesNext}
-use Rattle.dk_txn.proofs.NotAbove.{AtMost, stands_least, history_least}
-use Rattle.dk_txn.proofs.ReadHistory.{opened_reads, is_next, is_table}
+use Rattle.dk_txn.proofs.NotAbove.{free_above}
 
 -- ---- what a commit comes after
 
@@ -35,16 +38,19 @@ record Started (events : List Told) (from : Start) : Type 0 where
   next : (horizon : ℤ) → Lawful events horizon → from.version ≡ next_version events
   before : (horizon : ℤ) → Lawful events horizon → from.before ≡ table events
 
+-- the table at the last version of the history is the table
+table_there : (events : List Told) (version : ℕ) → version + 1 ≡ next_version events → table_at events version ≡ table events
+table_there events version last =
+    let long = length_commits (history events) in
+    ap fold (take_all (version + 1) (commits_of (history events)) (omega (arith, last, long)))
+
+none_begun : (count : ℕ) → last_of count ≡ None → count ≡ 0
+none_begun zero none = refl
+none_begun (suc version) some = absurd (let no : ◌≡◌ {A = Option ℕ} (Some version) None = some in cc)
+
 no_commits : (h : List RatifiedCommit) → length h ≡ 0 → empty_state ≡ state_of h
 no_commits [] none = refl
 no_commits (c ∷ h) none = absurd (omega (arith, none))
-
-pub free_above : (events : List Told) (last : Option ℕ) (version : ℕ) → latest events ≡ last → version < 2 ^ 63 → (AtMost version last → ⊥) → IsNone (object events (commit_path version))
-free_above events last version top small above = by (stands events version) refl
-  where
-    by : (there : Bool) → stands events version ≡ there → IsNone (object events (commit_path version))
-    by true is = absurd (above (subst (AtMost version) top (stands_least events version small is)))
-    by false is = is
 
 started : (events : List Told) (limits : Limits) (now : ℤ) (from : Start) → start events limits now ≡ Ok from → from.version < 2 ^ 63 → Started events from
 started events limits now from is small = by (latest events) refl is
@@ -52,15 +58,15 @@ started events limits now from is small = by (latest events) refl is
     after : (last : ℕ) (snapshot : Result Snapshot Refusal) → latest events ≡ Some last → opened events limits None usual_choice now ≡ snapshot → after_snapshot snapshot ≡ Ok from → Started events from
     after last (Err refusal) top opens starts = cc
     after last (Ok snapshot) top opens starts =
-        let found = opened_reads events limits now last snapshot top opens in
         let next : from.version ≡ snapshot.version + 1 = cc in
         let state : from.before ≡ snapshot.state = cc in
-        let at = found.version in
-        let value : from.version ≡ last + 1 = omega arith in
+        let at : last ≡ snapshot.version = last_read events limits usual_choice now last snapshot top opens in
+        let asks : (horizon : ℤ) → Lawful events horizon → snapshot.version + 1 ≡ next_version events =
+        λ horizon lawful. (opened_is_asked events horizon limits None usual_choice now snapshot lawful opens).0 in
         record {
-          free = free_above events (Some last) from.version top small (λ most. omega arith);
-          next = λ horizon lawful. value ∙ is_next events horizon lawful last (omega arith) top snapshot found;
-          before = λ horizon lawful. state ∙ is_table events horizon lawful last (omega arith) top snapshot found;
+          free = free_above events (Some last) from.version top small (λ most. omega (arith, next, at));
+          next = λ horizon lawful. next ∙ asks horizon lawful;
+          before = λ horizon lawful. state ∙ opened_is_table events horizon limits None usual_choice now snapshot lawful opens ∙ table_there events snapshot.version (asks horizon lawful);
         }
 
     at_last : (last : ℕ) (test : Bool) → latest events ≡ Some last → (if test then Err (refusals.Limit which.Version last_version) else after_snapshot (opened events limits None usual_choice now)) ≡ Ok from → Started events from
@@ -71,10 +77,7 @@ started events limits now from is small = by (latest events) refl is
     by None top starts =
         let first : 0 ≡ from.version = cc in
         let empty : empty_state ≡ from.before = cc in
-        let none : (horizon : ℤ) → Lawful events horizon → next_version events ≡ 0 = λ horizon lawful. elim (cases_lt 0 (next_version events)) [
-          | inl some ↦ absurd (subst (AtMost 0) top (history_least events horizon lawful 0 some))
-          | inr most ↦ omega arith
-        ] in
+        let none : (horizon : ℤ) → Lawful events horizon → next_version events ≡ 0 = λ horizon lawful. none_begun (next_version events) (sym (latest_is_last events horizon lawful) ∙ top) in
         record {
           free = free_above events None from.version top small (λ most. most);
           next = λ horizon lawful. sym first ∙ sym (none horizon lawful);
