@@ -23,7 +23,7 @@ mkdir -p "$crate/out"
 }
 set -- "$1" "$crate/out/dk_bench" "$work"
 if [ -f "$here/$1.rs" ]; then
-    rustc -O -o "$work/peer" "$here/$1.rs"
+    rustc --edition 2021 -O -o "$work/peer" "$here/$1.rs"
     set -- "$@" "$work/peer"
 fi
 what=$1

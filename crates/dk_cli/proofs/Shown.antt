@@ -1,5 +1,5 @@
 -- The text of show, over what a store may tell.
-use Rattle.std.proofs.Common.{◌≡◌, ℕ, ℤ, List, refl, subst, ◌∙◌}
+use Rattle.std.proofs.Common.{◌≡◌, ℕ, ℤ, List, refl, subst}
 use Rattle.std.specs.Prelude.{Option, Some, None, IfSome}
 use Rattle.dk_store.specs.Told.{Told}
 use Rattle.dk_engine.specs.declared.refusal.Refusal.{Refusal}

@@ -1,5 +1,5 @@
 -- The limits on the input, and which of them its bytes pass first.
-use Rattle.std.specs.Prelude.{◌≡◌, ℕ, zero, suc, ◌+◌, ◌==◌, not, nat_lt, if◌then◌else◌, List, length, take, reverse, Option, Some, None}
+use Rattle.std.specs.Prelude.{ℕ, zero, suc, ◌+◌, ◌==◌, not, nat_lt, if◌then◌else◌, List, length, take, reverse, Option, Some, None}
 use Rattle.std.specs.List.{count_by, take_while}
 use Rattle.dk_engine.specs.declared.limits.Limits.{Limits}
 use Rattle.dk_engine.specs.declared.limits.Which.{Which}

@@ -1,7 +1,6 @@
 //! The command `commit`: the actions of the input become the next version.
 ghost use Rattle.std.specs.Prelude.{◌≡◌, ◌≤◌, [], ℕ, List, Err, IfErr, IfSome, OnOk, is_some};
 ghost use Rattle.dk_store.specs.Causes.{Rose};
-ghost use Rattle.dk_model.specs.declared.action.Action.{Action};
 ghost use Rattle.dk_engine.specs.Held.{held};
 ghost use Rattle.dk_engine.specs.Usual.{AreWithin};
 ghost use Rattle.dk_lawful.specs.Kept.{IfBoth, KeepsLawful};

@@ -1,6 +1,5 @@
 -- Commits that break a rule may not come.
-use Rattle.std.proofs.Common.{◌≡◌, ℕ, ℤ, pos, List, [], ◌∷◌, ◌++◌, Option, Some, None, refl, ap, ◌∙◌, arith, inl}
-use Rattle.dk_model.specs.declared.action.Action.{Action}
+use Rattle.std.proofs.Common.{◌≡◌, ℤ, pos, [], ◌∷◌, ◌++◌, Some, refl, arith}
 use Rattle.dk_model.specs.CommitText.{commit_of}
 use Rattle.dk_model.specs.DomainObject.{domain_of}
 use Rattle.dk_model.specs.InfoObject.{info_of}

@@ -2,7 +2,7 @@
 ghost use Rattle.std.specs.Prelude.{◌≡◌, IfOk, map, option_copied};
 ghost use Rattle.dk_store.specs.Views.{listed};
 ghost use Rattle.dk_store.specs.Listing.{behind};
-ghost use Rattle.dk_paths.specs.Places.{log_front, staged_front};
+ghost use Rattle.dk_paths.specs.Places.{staged_front};
 ghost use Rattle.dk_listing.specs.Sizes.{listed_size};
 ghost use Rattle.dk_snapshot.specs.Sizes.{HasSizes, Knows, known_in_log, known_size, size_under};
 ghost use Rattle.dk_snapshot.specs.Steps.{step_path};

@@ -4,7 +4,6 @@ ghost use Rattle.std.specs.List.{filter_map, list_all, list_any};
 ghost use Rattle.std.specs.Option.{option_copied};
 ghost use Rattle.dk_features.specs.Forms.{is_each_once};
 ghost use Rattle.dk_features.specs.InForce.{has_feature};
-ghost use Rattle.dk_features.specs.Names.{append_only, domain_metadata};
 ghost use Rattle.dk_txn.specs.Walks.{key_in, stands_behind_own};
 ghost use Rattle.dk_model.specs.ReadBack.{own_info};
 ghost use Rattle.dk_model.specs.State.{steps};

@@ -1,4 +1,4 @@
-use Rattle.std.proofs.Common.{◌≡◌, ℕ, ◌≤◌, length, None, sym, subst, ◌∙◌, rules}
+use Rattle.std.proofs.Common.{◌≡◌, ◌≤◌, length, None, sym, subst, ◌∙◌, rules}
 use Rattle.dk_cli.specs.Seen.{HasSeen}
 use Rattle.dk_cli.proofs.Scans.{none_behind}
 use Rattle.dk_cli.proofs.Inputs.{left_after, limit_told}

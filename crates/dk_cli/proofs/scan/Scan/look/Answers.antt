@@ -1,5 +1,5 @@
 use Rattle.std.proofs.lemmas.List.{take_all}
-use Rattle.std.proofs.Common.{◌≡◌, ℕ, [], ◌∷◌, ◌++◌, ◌+◌, take, sym, ◌∙◌, rules}
+use Rattle.std.proofs.Common.{◌≡◌, ◌++◌, ◌+◌, take, sym, ◌∙◌, rules}
 use Rattle.dk_cli.specs.Input.{passed}
 use Rattle.dk_cli.specs.Seen.{HasSeen}
 use Rattle.dk_cli.proofs.Scans.{goes_on, stops, seen_more, none_of}
