@@ -80,7 +80,7 @@ appended_history : history appended ≡ by_file appending_actions ∷ []
 appended_history = history_one appending_text appending_actions appending_means
 
 pub rows_removed : IsForbidden appended (Made (commit_path 1) removing_text (pos 1))
-unfolding rules_on_literals
+unfolding rules_on_literals commits_on_literals
 rows_removed horizon may =
     broken appended (by_file appending_actions ∷ []) 1 7 removing_text removing_actions appended_history refl removing_means
     (may_add appended horizon 1 removing_text (pos 1) (omega arith) refl may)
