@@ -60,7 +60,7 @@ classic_quiet state version cut = by (has_v2 state)
     by true = all_quiet state cut (files_of state)
     by false = all_quiet state cut (files_of state)
 
-pub classic_may_be_made : ClassicMayBeMade
+pub classic_may_be_made : MeansOneList → ClassicMayBeMade
 classic_may_be_made one events horizon version state cut bytes written means =
     makes_top one events horizon (Classic version) version state cut bytes (record { actions = classic_content state version cut; sidecars = [] }) [] written
     (record { means = means; named = classic_quiet state version cut }) refl
@@ -73,7 +73,7 @@ v2_names state version cut (reference ∷ references) =
     skips_heads sidecars_of state (named_actions state ++ map (λ r. action.Sidecar r) (reference ∷ references)) (λ p more. refl) (λ m more. refl)
     ∙ skips_named sidecars_of state (map (λ r. action.Sidecar r) (reference ∷ references)) (λ e more. refl) (λ e more. refl)
 
-pub v2_may_be_made : V2MayBeMade
+pub v2_may_be_made : MeansOneList → V2MayBeMade
 v2_may_be_made one events horizon version id json state cut references names bytes written means named sides_mean =
     makes_top one events horizon (V2 version id json) version state cut bytes (record { actions = v2_content state version cut references; sidecars = names })
     (sidecars_content state cut (length references) (length references)) written

@@ -71,7 +71,7 @@ module _ (one : MeansOneList) where
         let same_rest : rest ≡ rest' = sides_mean names rest rest' rests rests' in
         all ∙ ap₂ (λ xs ys. xs ++ ys) same_own same_rest ∙ sym all'
 
-pub checkpoint_means_one : CheckpointMeansOne
+pub checkpoint_means_one : MeansOneList → CheckpointMeansOne
 checkpoint_means_one one events checkpoint actions others means means_other =
     let same : means.top ≡ means_other.top = objects_mean one events checkpoint means.top means_other.top means.means means_other.means in
     let sides : means.sides ≡ means_other.sides =

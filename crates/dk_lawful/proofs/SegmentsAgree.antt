@@ -199,7 +199,7 @@ module _ (events : List Told) (horizon : ℤ) (lawful : Lawful events horizon) w
             (read_parts_stand one events horizon lawful v parts actions some means),
       )
 
-pub read_agrees : ReadAgrees
+pub read_agrees : MeansOneList → ReadAgrees
 read_agrees one events horizon lawful base walked version state from =
     let (within, agrees) = walks events horizon lawful (λ s whole. Agree s whole horizon) (λ s whole. agree_steps s whole horizon) from.next walked (version + 1) from.read
     (steps empty_state from.actions) from.go_on from.steps_mean (base_agrees events horizon lawful one base from.next from.actions from.base_means) in

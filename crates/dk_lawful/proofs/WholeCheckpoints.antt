@@ -4,6 +4,7 @@ use Rattle.std.proofs.lemmas.Bool.{cases_eq}
 use Rattle.dk_model.specs.declared.action.Action.{Action}
 use Rattle.dk_model.specs.declared.state.TableState.{TableState}
 use Rattle.dk_model.specs.State.{steps, empty_state}
+use Rattle.dk_pqmodel.specs.FileMeans.{MeansOneList}
 use Rattle.dk_store.specs.Told.{Told}
 use Rattle.dk_paths.specs.Places.{Part}
 use Rattle.dk_lawful.specs.Present.{Holds, Present}
@@ -104,12 +105,12 @@ all_held events version parts (suc before) top (front, own, means, (bytes, holds
   | inr other ↦ all_held events version parts before front means part low (omega arith)
 ]
 
-pub read_parts_stand : ReadPartsStand
+pub read_parts_stand : MeansOneList → ReadPartsStand
 read_parts_stand one events horizon lawful version parts actions some means =
     let (others, means_other, stands) = parts_stand events horizon lawful version parts (some, all_held events version parts parts means.top means.means) in
     subst (λ (xs : List Action). Stands xs (table_at events version) horizon) (checkpoint_means_one one events (in_parts version parts) others actions means_other means) stands
 
-pub read_tops_stand : ReadTopsStand
+pub read_tops_stand : MeansOneList → ReadTopsStand
 read_tops_stand one events horizon lawful place version actions is means =
     let (others, means_other, stands) = tops_stand events horizon lawful place version is (means.means.0, means.means.1) in
     subst (λ (xs : List Action). Stands xs (table_at events version) horizon) (checkpoint_means_one one events (in_one place) others actions means_other means) stands

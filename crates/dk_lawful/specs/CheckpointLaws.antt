@@ -1,6 +1,5 @@
 -- The laws of checkpoints, as statements.
 use Rattle.std.specs.Prelude.{◌≡◌, ℕ, ℤ, ◌≤◌, List}
-use Rattle.dk_pqmodel.specs.FileMeans.{MeansOneList}
 use Rattle.dk_model.specs.declared.action.Action.{Action}
 use Rattle.dk_store.specs.Told.{Told}
 use Rattle.dk_paths.specs.Places.{Place, Part}
@@ -28,16 +27,17 @@ abbrev pub TopsStand : Type 0
 TopsStand = (events : List Told) (horizon : ℤ) → Lawful events horizon → (place : Place) (version : ℕ) → IsTopOf place version → Present events place
     → StandsFor events horizon (in_one place) version
 
--- Where a Parquet file means at most one list of rows, a checkpoint means at most one list of actions,
+-- Where a Parquet file means at most one list of rows, which the laws on what is read take as a premise here, a checkpoint means at most
+-- one list of actions,
 abbrev pub CheckpointMeansOne : Type 0
-CheckpointMeansOne = MeansOneList → (events : List Told) (checkpoint : Checkpoint) (actions others : List Action)
+CheckpointMeansOne = (events : List Told) (checkpoint : Checkpoint) (actions others : List Action)
     → CheckpointMeans events checkpoint actions → CheckpointMeans events checkpoint others → actions ≡ others
 
 -- and so whatever is read of a checkpoint of a lawful log stands for the state at its version.
 abbrev pub ReadPartsStand : Type 0
-ReadPartsStand = MeansOneList → (events : List Told) (horizon : ℤ) → Lawful events horizon → (version parts : ℕ) (actions : List Action) → 1 ≤ parts
+ReadPartsStand = (events : List Told) (horizon : ℤ) → Lawful events horizon → (version parts : ℕ) (actions : List Action) → 1 ≤ parts
     → CheckpointMeans events (in_parts version parts) actions → Stands actions (table_at events version) horizon
 
 abbrev pub ReadTopsStand : Type 0
-ReadTopsStand = MeansOneList → (events : List Told) (horizon : ℤ) → Lawful events horizon → (place : Place) (version : ℕ) (actions : List Action) → IsTopOf place version
+ReadTopsStand = (events : List Told) (horizon : ℤ) → Lawful events horizon → (place : Place) (version : ℕ) (actions : List Action) → IsTopOf place version
     → CheckpointMeans events (in_one place) actions → Stands actions (table_at events version) horizon

@@ -2,7 +2,6 @@
 use Rattle.std.specs.Prelude.{◌≡◌, ℕ, zero, suc, ℤ, Bool, true, ◌≤◌, ◌≤ℤ◌, List, [], ◌∷◌, ◌++◌, Some, length, map}
 use Rattle.std.specs.List.{filter_map, list_all}
 use Rattle.dk_model.specs.declared.action.SidecarRef.{SidecarRef}
-use Rattle.dk_pqmodel.specs.FileMeans.{MeansOneList}
 use Rattle.dk_model.specs.declared.action.Action.{Action}
 use Rattle.dk_model.specs.declared.action.Action.TheVariants as action
 use Rattle.dk_model.specs.declared.state.TableState.{TableState}
@@ -65,14 +64,14 @@ abbrev pub PartMayBeMade : Type 0
 PartMayBeMade = (events : List Told) (horizon : ℤ) (version part parts : ℕ) (state : TableState) (cut : ℤ) (bytes : List ℕ) → WrittenOf events horizon version state cut
     → 1 ≤ part → part ≤ parts → InParquet bytes (part_content state cut part parts) → MayMake events (Part version part parts) bytes horizon
 
--- a checkpoint in one object by the version's name, where a Parquet file means at most one list of rows
+-- a checkpoint in one object by the version's name, where a Parquet file means at most one list of rows: a premise here
 abbrev pub ClassicMayBeMade : Type 0
-ClassicMayBeMade = MeansOneList → (events : List Told) (horizon : ℤ) (version : ℕ) (state : TableState) (cut : ℤ) (bytes : List ℕ) → WrittenOf events horizon version state cut
+ClassicMayBeMade = (events : List Told) (horizon : ℤ) (version : ℕ) (state : TableState) (cut : ℤ) (bytes : List ℕ) → WrittenOf events horizon version state cut
     → InParquet bytes (classic_content state version cut) → MayMake events (Classic version) bytes horizon
 
 -- one of the form V2, whose sidecars stand and have what is to be written of them, in the order in which it names them
 abbrev pub V2MayBeMade : Type 0
-V2MayBeMade = MeansOneList → (events : List Told) (horizon : ℤ) (version id : ℕ) (json : Bool) (state : TableState) (cut : ℤ) (references : List SidecarRef) (names : List (List ℕ)) (bytes : List ℕ)
+V2MayBeMade = (events : List Told) (horizon : ℤ) (version id : ℕ) (json : Bool) (state : TableState) (cut : ℤ) (references : List SidecarRef) (names : List (List ℕ)) (bytes : List ℕ)
     → WrittenOf events horizon version state cut → HasActions json bytes (v2_content state version cut references)
     → sidecars_of (map (λ r. action.Sidecar r) references) ≡ Some names
     → SidesMean events names (sidecars_content state cut (length references) (length references))

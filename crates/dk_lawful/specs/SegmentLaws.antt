@@ -1,7 +1,6 @@
 -- What is read of a version, whatever it is read from: a checkpoint or none, and then commits and compacted files, one behind another
 -- (Delta Lake's PROTOCOL.md, "Action Reconciliation", "Log Compaction Files", "Checkpoints", "Catalog-managed tables").
 use Rattle.std.specs.Prelude.{◌≡◌, ℕ, ℤ, ◌+◌, ◌<◌, ◌≤◌, ◌⊎◌, List, [], ◌∷◌, Option, Some, None}
-use Rattle.dk_pqmodel.specs.FileMeans.{MeansOneList}
 use Rattle.dk_model.specs.declared.action.Action.{Action}
 use Rattle.dk_model.specs.declared.state.TableState.{TableState}
 use Rattle.dk_model.specs.CommitText.{commit_of}
@@ -81,7 +80,7 @@ pub record ReadFrom (events : List Told) (base : Option Checkpoint) (walked : Li
 -- Of a lawful log whatever a version is read from leads to the state of the history there, but for expired tombstones, and the version
 -- is one of the history;
 abbrev pub ReadAgrees : Type 0
-ReadAgrees = MeansOneList → (events : List Told) (horizon : ℤ) → Lawful events horizon → (base : Option Checkpoint) (walked : List Step) (version : ℕ) (state : TableState)
+ReadAgrees = (events : List Told) (horizon : ℤ) → Lawful events horizon → (base : Option Checkpoint) (walked : List Step) (version : ℕ) (state : TableState)
     → ReadFrom events base walked version state → (version < next_version events) × Agree state (table_at events version) horizon
 
 -- without a checkpoint to exactly that state.

@@ -10,18 +10,19 @@ ghost use Rattle.dk_lawful.specs.RowExample.{RowsMean};
 ghost use Rattle.dk_paths.specs.Names.{commit_path};
 ghost use Rattle.dk_paths.specs.Places.{Classic, Compacted, Part, Sidecar, Staged, V2, place_path};
 ghost use Rattle.dk_paths.specs.Staged.{staged_name};
+ghost use Rattle.dk_pqmodel.specs.FileMeans.{MeansOneList};
 ghost use Rattle.dk_store.specs.Told.{Deleted, Made, Over, Ratified};
 
 /// On a lawful log a checkpoint that is complete means something, and its actions lead to the state at its version, but
 /// for tombstones up to the horizon: as one object with its sidecars, or as parts, whichever writers made them, at whatever
-/// moments (Delta Lake's PROTOCOL.md, "Checkpoints"). Where a Parquet file means at most one list of rows, a checkpoint
-/// means one list of actions, so the same holds of whatever is read of it.
+/// moments (Delta Lake's PROTOCOL.md, "Checkpoints"). Where a Parquet file means at most one list of rows, which is a
+/// premise here, a checkpoint means one list of actions, so the same holds of whatever is read of it.
 pub fn checkpoints_stand()
     ensures parts { PartsStand }
     ensures tops { TopsStand }
-    ensures one { CheckpointMeansOne }
-    ensures read_parts { ReadPartsStand }
-    ensures read_tops { ReadTopsStand }
+    ensures one { MeansOneList → CheckpointMeansOne }
+    ensures read_parts { MeansOneList → ReadPartsStand }
+    ensures read_tops { MeansOneList → ReadTopsStand }
 {}
 
 /// What is written of a checkpoint of a well kept state leads back to it, but for tombstones up to the cut: as one object,
@@ -42,8 +43,8 @@ pub fn contents_stand()
 /// checkpoint in one object, with its sidecars.
 pub fn contents_may_be_made()
     ensures part { PartMayBeMade }
-    ensures classic { ClassicMayBeMade }
-    ensures v2 { V2MayBeMade }
+    ensures classic { MeansOneList → ClassicMayBeMade }
+    ensures v2 { MeansOneList → V2MayBeMade }
 {}
 
 /// Rows of checkpoints and the actions that they mean: one of each kind, files without a deletion vector, with an empty
