@@ -7,6 +7,7 @@ pub mod Cutting
 pub mod DataPages
 pub mod Depths
 pub mod DictionaryPages
+pub mod DistinctPaths
 pub mod Dotted
 pub mod Eaches
 pub mod Failing
@@ -17,6 +18,7 @@ pub mod Going
 pub mod Groups
 pub mod Laying
 pub mod LevelLaws
+pub mod OneList
 pub mod Opening
 pub mod PageReading
 pub mod PageTriples
