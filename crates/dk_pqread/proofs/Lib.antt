@@ -7,6 +7,7 @@ pub mod Cutting
 pub mod DataPages
 pub mod Depths
 pub mod DictionaryPages
+pub mod DistinctPaths
 pub mod Dotted
 pub mod Eaches
 pub mod Failing
