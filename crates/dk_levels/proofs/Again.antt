@@ -193,9 +193,13 @@ rows_again fs rows w solid h =
     (rw flip (rw (later_again (root fs) (cell_at (root fs) 0 0 0 0) 0 0 0 w (root_back fs w solid) rows (column_length (joined L E) 0) E h
     (count_column 0 rows (root fs) 0 0 E h w) wide (low_empty 0 _) (none_begins 0 _)) (rw (all_empty_empty (width_of fs)) refl)))
 
--- Rows with the same triples are the same.
-pub one_reading : (fs : Fields) (rows others : Cells) (columns : List Column) → IsReadable fs → AreTriplesOf fs rows columns → AreTriplesOf fs others columns → rows ≡ others
-one_reading fs rows others columns readable a b =
-    let one : rows_at fs columns ≡ Some rows = ap (rows_at fs) a.1 ∙ rows_again fs rows readable.wide readable.solid a.0 in
-    let other : rows_at fs columns ≡ Some others = ap (rows_at fs) b.1 ∙ rows_again fs others readable.wide readable.solid b.0 in
+-- Rows with the same triples are the same, where each field has a column.
+pub one_solid_reading : (fs : Fields) (rows others : Cells) (columns : List Column) → 0 < width_of fs → AreSolid fs → AreTriplesOf fs rows columns → AreTriplesOf fs others columns
+    → rows ≡ others
+one_solid_reading fs rows others columns wide solid a b =
+    let one : rows_at fs columns ≡ Some rows = ap (rows_at fs) a.1 ∙ rows_again fs rows wide solid a.0 in
+    let other : rows_at fs columns ≡ Some others = ap (rows_at fs) b.1 ∙ rows_again fs others wide solid b.0 in
     cc (one, other)
+
+pub one_reading : (fs : Fields) (rows others : Cells) (columns : List Column) → IsReadable fs → AreTriplesOf fs rows columns → AreTriplesOf fs others columns → rows ≡ others
+one_reading fs rows others columns readable a b = one_solid_reading fs rows others columns readable.wide readable.solid a b

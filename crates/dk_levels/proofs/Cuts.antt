@@ -111,6 +111,14 @@ mutual
   named_tight : (f : Field) (path : Path) (ns : FileNodes) → TightPlan (laid_named f path ns) (bound f)
   named_tight (field name nullable s) path ns = on_some_tight (named_in name ns) _ _ (λ n. at_tight s (path ++ name ∷ []) n)
 
+-- whatever is wanted, each field of the cut has a column
+pub record IsSolidCut (fs : Fields) : Type 0 where
+  pub wide : 0 < width_of fs
+  pub solid : AreSolid fs
+
+pub cuts_are_solid : (fs : Fields) (ns : FileNodes) → all_missing (laid fs ns) ≡ false → IsSolidCut (cuts_of (laid fs ns))
+cuts_are_solid fs ns e = let t = each_tight fs [] ns in record { wide = t.some e; solid = t.solid }
+
 pub cuts_are_readable : (fs : Fields) (ns : FileNodes) → IsSchema fs → all_missing (laid fs ns) ≡ false → IsReadable (cuts_of (laid fs ns))
 cuts_are_readable fs ns h e =
     let t = each_tight fs [] ns in record { wide = t.some e; solid = t.solid; deep = omega (arith, t.deep, h.levels) }

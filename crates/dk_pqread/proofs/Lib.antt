@@ -18,6 +18,7 @@ pub mod Going
 pub mod Groups
 pub mod Laying
 pub mod LevelLaws
+pub mod OneList
 pub mod Opening
 pub mod PageReading
 pub mod PageTriples
