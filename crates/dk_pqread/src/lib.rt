@@ -18,10 +18,15 @@ mod names;
 mod page;
 mod plain;
 mod plan;
+mod read;
+mod rows;
 mod runs;
 mod scan;
 #[cfg(test)]
 mod tests;
 mod tree;
 mod values;
+mod widen;
 mod zip;
+
+pub use read::read_rows;
