@@ -1,5 +1,5 @@
 -- What is answered of a file by what its row groups mean.
-use Rattle.std.proofs.Common.{◌≡◌, ℕ, ◌+◌, [], ◌∷◌, List, length, map, None, Some, Result, Err, refl, sym, ap, subst, ◌∙◌, arith}
+use Rattle.std.proofs.Common.{◌≡◌, ℕ, ◌+◌, [], ◌∷◌, List, length, map, Err, refl, sym, ap, subst, ◌∙◌, arith}
 use Rattle.std.specs.List.{All}
 use Rattle.std.proofs.lemmas.List.Elements.{All-nil, All-cons, All-head, All-tail}
 use Rattle.dk_pqmodel.specs.Shape.{Fields}
@@ -7,7 +7,7 @@ use Rattle.dk_pqmodel.specs.Datum.{Cells, no_cells, one_cell, appended}
 use Rattle.dk_pqmodel.specs.Footer.{Footer, RowGroup}
 use Rattle.dk_pqmodel.specs.FooterBytes.{IsFramed, HasFooter}
 use Rattle.dk_pqmodel.specs.FileMeans.{AreShares, FileMeans, all_rows, rows_in}
-use Rattle.dk_pqmodel.specs.Laid.{Plans, laid, first_misfit, rows_widened}
+use Rattle.dk_pqmodel.specs.Laid.{Plans, laid, first_misfit}
 use Rattle.dk_pqmodel.specs.declared.fault.PqFault.{PqFault}
 use Rattle.dk_pqmodel.specs.declared.fault.PqFault.TheVariants.{NotParquet, Shape, Compressed, Encoding, Broken, OutOfMemory}
 use Rattle.dk_pqmeta.specs.View.{group_view}

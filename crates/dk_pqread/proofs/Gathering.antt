@@ -8,10 +8,9 @@ use Rattle.dk_pqmodel.specs.Laid.{Plans, both_read, turned_all, in_group, widene
 use Rattle.dk_pqmodel.specs.declared.fault.PqFault.{PqFault}
 use Rattle.dk_pqmeta.specs.View.{group_view}
 use Rattle.dk_pqmeta.specs.declared.footer.RowGroup as code
-use Rattle.dk_pqread.specs.Gives.{Fails}
 use Rattle.dk_pqread.specs.Meanings.{Refuses}
 use Rattle.dk_pqread.specs.RowsMeaning.{GroupMeans, GroupsMean, AddsRows}
-use Rattle.dk_pqread.proofs.Finding.{refuses_by, fails_refuses}
+use Rattle.dk_pqread.proofs.Finding.{refuses_by}
 use Rattle.dk_pqread.proofs.Going.{appended_nothing}
 use Rattle.dk_pqread.proofs.PartLaws.{none_is_not_some, some_is}
 

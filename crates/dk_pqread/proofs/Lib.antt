@@ -30,6 +30,7 @@ pub mod PlainSteps
 pub mod RunReading
 pub mod Scanning
 pub mod Shares
+pub mod Unopposed
 pub mod ValueLaws
 pub mod ValueReading
 pub mod Widening

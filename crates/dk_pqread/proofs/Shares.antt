@@ -10,8 +10,7 @@ use Rattle.dk_pqmodel.specs.Datum.{Cells, no_cells, one_cell, Column, appended}
 use Rattle.dk_pqmodel.specs.Fits.{AreTriplesOf, AreRowsOf}
 use Rattle.dk_pqmodel.specs.Footer.{RowGroup, is_new_each}
 use Rattle.dk_pqmodel.specs.FileMeans.{HasColumns, IsShare, columns_of, rows_in}
-use Rattle.dk_pqmodel.specs.FilePages.{ColumnAt}
-use Rattle.dk_pqmodel.specs.Laid.{Plan, missing, value, members, elements, entries, Plans, no_plans, one_plan, all_missing, cuts_of, rows_widened}
+use Rattle.dk_pqmodel.specs.Laid.{missing, value, members, elements, entries, Plans, no_plans, one_plan, all_missing, cuts_of, rows_widened}
 use Rattle.dk_pqmodel.specs.RowView.{row_of, rows_of}
 use Rattle.dk_pqmodel.specs.Triples.{later_triples}
 use Rattle.dk_pqmodel.specs.declared.row.Row.{Row}

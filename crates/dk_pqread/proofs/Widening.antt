@@ -3,7 +3,7 @@ use Rattle.std.proofs.Common.{◌≡◌, ℕ, ◌+◌, ◌<◌, ◌≤◌, Bool,
 use Rattle.std.specs.Option.{option_map, option_and_then}
 use Rattle.std.proofs.lemmas.List.{drop_all}
 use Rattle.dk_pqmodel.specs.Datum.{Datum, null, atom, group, list, Cells, no_cells, one_cell, appended}
-use Rattle.dk_pqmodel.specs.Laid.{Plan, elements, entries, is_missing, both_read, next_cell, pair_of, rows_widened, turned_all, widened, widened_each, Plans}
+use Rattle.dk_pqmodel.specs.Laid.{elements, entries, is_missing, both_read, next_cell, pair_of, rows_widened, turned_all, widened, widened_each, Plans}
 use Rattle.dk_pqmodel.specs.RowView.{datum_of, cells_of, row_of, rows_of}
 use Rattle.dk_pqmodel.specs.declared.row.Row.{Row}
 use Rattle.dk_pqmodel.specs.declared.row.Cell.{Cell}

@@ -10,7 +10,7 @@ use Rattle.dk_pqmodel.specs.Laid.{Plans, rows_widened}
 use Rattle.dk_pqmodel.specs.RowView.{rows_of}
 use Rattle.dk_pqmodel.specs.declared.row.Row.{Row}
 use Rattle.dk_pqmodel.specs.declared.fault.PqFault.{PqFault}
-use Rattle.dk_pqmodel.specs.declared.fault.PqFault.TheVariants.{NotParquet, Shape, Compressed, Encoding, Broken, OutOfMemory}
+use Rattle.dk_pqmodel.specs.declared.fault.PqFault.TheVariants.{Broken}
 use Rattle.dk_pqread.specs.Faults.{DiffersAt, IsCompressed, IsUnread, IsRefused}
 
 -- so many rows without a cell

@@ -19,6 +19,8 @@ mod page;
 mod plain;
 mod plan;
 mod read;
+#[cfg(test)]
+mod row_tests;
 mod rows;
 mod runs;
 mod scan;

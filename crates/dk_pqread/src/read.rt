@@ -1,6 +1,11 @@
 //! The rows of a file.
 
+ghost use Rattle.std.specs.Prelude.{Some};
+ghost use Rattle.dk_pqmodel.specs.Datum.{Cells};
+ghost use Rattle.dk_pqmodel.specs.FileMeans.{FileMeans};
+ghost use Rattle.dk_pqmodel.specs.RowView.{rows_of};
 ghost use Rattle.dk_pqmodel.specs.SchemaView.{fields_in};
+ghost use Rattle.dk_pqread.specs.Gives.{Gives};
 ghost use Rattle.dk_pqread.specs.RowsMeaning.{Reads};
 
 use crate::examine::{Examined, before_footer, examine};
@@ -16,6 +21,14 @@ use std::alloc::Global;
 /// these applies and yet no rows are meant. All but the last are found before a value is read. There is no other refusal but
 /// `OutOfMemory`.
 pub fn read_rows(alloc: Global, bytes: &[u8], wanted: &Schema) -> Result<Vec<Row>, PqFault>
+    ensures reads { Reads (fields_in wanted.now) bytes.now result }
+    // Where the file means some rows, these are answered, or memory was wanting.
+    ensures only { (rows : Cells) → FileMeans (fields_in wanted.now) bytes.now rows → Gives (λ v. rows_of v.items) result (Some rows) }
+{
+    read_file(alloc, bytes, wanted)
+}
+
+fn read_file(alloc: Global, bytes: &[u8], wanted: &Schema) -> Result<Vec<Row>, PqFault>
     ensures { Reads (fields_in wanted.now) bytes.now result }
 {
     let Examined {
