@@ -1,3 +1,4 @@
+pub mod DictionaryCodes
 pub mod Growing
 pub mod Meanings
 pub mod PageExamples

@@ -62,15 +62,15 @@ module _ (before : List ℕ) (column : ColumnAt) (dictionary : Option (List Valu
       }
 
   -- the first page, where there are triples
-  record FirstPage (place count : ℕ) (all : Column) : Type 0 where
-    page : Page
-    at : IsPageAt before place page
-    new : Column
-    holds : PageHolds column dictionary page new
-    rest : Column
-    all_is : all ≡ new ++ rest
-    behind : From page.next (count - length new) rest
-    room : length new ≤ count
+  pub record FirstPage (place count : ℕ) (all : Column) : Type 0 where
+    pub page : Page
+    pub at : IsPageAt before place page
+    pub new : Column
+    pub holds : PageHolds column dictionary page new
+    pub rest : Column
+    pub all_is : all ≡ new ++ rest
+    pub behind : From page.next (count - length new) rest
+    pub room : length new ≤ count
 
   first_page : (front behind : List ℕ) (pages : List (List ℕ × Column)) (all : Column) (count : ℕ) → 0 < count → before ≡ front ++ (flat_map (λ x. x.0) pages ++ behind) → AreData column dictionary pages
       → all ≡ flat_map (λ x. x.1) pages → length all ≡ count → FirstPage (length front) count all
@@ -99,7 +99,7 @@ module _ (before : List ℕ) (column : ColumnAt) (dictionary : Option (List Valu
         room = omega (arith, long, len);
       }
 
-  data_first : (place count : ℕ) (all : Column) → 0 < count → From place count all → FirstPage place count all
+  pub data_first : (place count : ℕ) (all : Column) → 0 < count → From place count all → FirstPage place count all
   data_first place count all some d = subst (λ n. FirstPage n count all) d.begins (first_page d.front d.behind d.pages all count some d.whole d.read d.joined d.count)
 
   data_none : (place : ℕ) → place ≤ length before → From place 0 []

@@ -1,3 +1,4 @@
+pub mod Answering
 pub mod Before
 pub mod Bits
 pub mod ChunkPages
@@ -14,6 +15,7 @@ pub mod Failing
 pub mod FileNodes
 pub mod Finding
 pub mod FlagKinds
+pub mod Gathering
 pub mod Going
 pub mod Groups
 pub mod Laying
@@ -27,7 +29,10 @@ pub mod PlainLaws
 pub mod PlainSteps
 pub mod RunReading
 pub mod Scanning
+pub mod Shares
+pub mod Unopposed
 pub mod ValueLaws
 pub mod ValueReading
+pub mod Widening
 pub mod ZipSteps
 pub mod Zips

@@ -20,7 +20,7 @@ use Rattle.dk_pqread.proofs.PartLaws.{some_is}
 
 -- ---- where the file has nothing that is wanted, rows are empty groups, so many as the group says
 
-cuts_missing : (ps : Plans) → all_missing ps ≡ true → cuts_of ps ≡ no_fields
+pub cuts_missing : (ps : Plans) → all_missing ps ≡ true → cuts_of ps ≡ no_fields
 cuts_missing no_plans e = refl
 cuts_missing (one_plan missing ps) e = cuts_missing ps e
 cuts_missing (one_plan (value b l path) ps) e = cc
@@ -35,7 +35,7 @@ empty_row (group no_cells) h = refl
 empty_row (group (one_cell c cs)) h = absurd h
 empty_row (list cs) h = absurd h
 
-empty_rows_once : (rows others : Cells) → AreRowsOf no_fields rows → AreRowsOf no_fields others → rows_in rows ≡ rows_in others → rows ≡ others
+pub empty_rows_once : (rows others : Cells) → AreRowsOf no_fields rows → AreRowsOf no_fields others → rows_in rows ≡ rows_in others → rows ≡ others
 empty_rows_once no_cells no_cells first second count = refl
 empty_rows_once no_cells (one_cell d ds) first second count = absurd (omega arith)
 empty_rows_once (one_cell c cs) no_cells first second count = absurd (omega arith)

@@ -12,5 +12,6 @@ pub mod LeafView
 pub mod Meanings
 pub mod PageMeaning
 pub mod PlanView
+pub mod RowsMeaning
 pub mod Scans
 pub mod Values

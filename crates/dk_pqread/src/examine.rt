@@ -94,7 +94,7 @@ fn scan(
 }
 
 /// The file up to its footer.
-fn before_footer(bytes: &[u8]) -> &[u8]
+pub(crate) fn before_footer(bytes: &[u8]) -> &[u8]
     requires { (before : List ℕ) × (part : List ℕ) × IsFramed bytes.now before part }
     ensures { (before part : List ℕ) → IsFramed bytes.now before part → result.now ≡ before }
 {

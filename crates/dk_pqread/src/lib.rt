@@ -18,10 +18,17 @@ mod names;
 mod page;
 mod plain;
 mod plan;
+mod read;
+#[cfg(test)]
+mod row_tests;
+mod rows;
 mod runs;
 mod scan;
 #[cfg(test)]
 mod tests;
 mod tree;
 mod values;
+mod widen;
 mod zip;
+
+pub use read::read_rows;
