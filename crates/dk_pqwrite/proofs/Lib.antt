@@ -1,0 +1,2 @@
+pub mod AddingLevels
+pub mod HeaderSpelling

@@ -1,0 +1,3 @@
+pub mod AddedLevels
+pub mod HeaderBytes
+pub mod WrittenColumn
