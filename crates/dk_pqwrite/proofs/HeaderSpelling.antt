@@ -1,14 +1,12 @@
 -- Headers that are written are spelled, and short.
-use Rattle.std.proofs.Common.{rules, ◌≡◌, ℕ, zero, suc, ◌+◌, ◌*◌, ◌/◌, ◌%◌, ◌^◌, ◌<◌, ◌≤◌, Bool, true, false, cond, nat_lt, IsTrue, IsFalse, Option, Some, ℤ, pos, List, [], ◌∷◌, ◌++◌, length, refl, sym, ap, subst, ◌∙◌, append_assoc, arith, FitsSigned, w64}
+use Rattle.std.proofs.Common.{rules, ◌≡◌, ℕ, zero, suc, ◌+◌, ◌*◌, ◌/◌, ◌%◌, ◌^◌, ◌<◌, ◌≤◌, Bool, true, false, cond, nat_lt, IsTrue, IsFalse, Some, ℤ, pos, List, [], ◌∷◌, ◌++◌, length, refl, ap, subst, ◌∙◌, append_assoc, arith, FitsSigned, w64}
 use Rattle.std.proofs.Math.Nat.{pow-suc}
 use Rattle.std.proofs.lemmas.List.{length-append}
 use Rattle.std.proofs.lemmas.Nat.{div_below}
 use Rattle.std.proofs.lemmas.Bool.{ltb-false}
-use Rattle.dk_grammar.specs.Varint.{groups, varint_bytes}
-use Rattle.dk_grammar.specs.Zigzag.{zigzag}
+use Rattle.dk_grammar.specs.Varint.{groups}
 use Rattle.dk_grammar.specs.Spelling.{field_bytes, whole_bytes, end_bytes}
 use Rattle.dk_grammar.specs.Thrift.{is_id}
-use Rattle.dk_grammar.specs.Grammar.{SpellsField}
 use Rattle.dk_grammar.specs.Structs.{Listed, SpellsFields, SpellsNumberField, SpellsStruct}
 use Rattle.dk_grammar.specs.PageHeaders.{Part, number, inner, is_inner, SpellsPart, SpellsHeader}
 use Rattle.dk_grammar.proofs.WrittenSpellings.{whole_written, field_written, end_written}

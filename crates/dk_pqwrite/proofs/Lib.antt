@@ -1,2 +1,4 @@
 pub mod AddingLevels
+pub mod AddingPlain
 pub mod HeaderSpelling
+pub mod Packing

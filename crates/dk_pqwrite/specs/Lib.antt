@@ -1,3 +1,5 @@
 pub mod AddedLevels
+pub mod Adding
 pub mod HeaderBytes
+pub mod PlainValues
 pub mod WrittenColumn

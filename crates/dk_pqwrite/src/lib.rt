@@ -2,5 +2,7 @@
 #![tactic(auto)]
 
 mod column;
+mod flags;
 mod header;
 mod levels;
+mod values;
