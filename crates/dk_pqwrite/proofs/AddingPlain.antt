@@ -112,7 +112,7 @@ adds_text text old new short utf8 e = record {
 
 -- ---- the values of triples, one after another
 
-single : {X : Type 0} (x : Option X) → filter_map (λ y. y) (x ∷ []) ≡ option_to_list x
+pub single : {X : Type 0} (x : Option X) → filter_map (λ y. y) (x ∷ []) ≡ option_to_list x
 single None = refl
 single (Some x) = refl
 
@@ -154,7 +154,7 @@ module _ (kind : Leaf) (triples : List Triple) (i : ℕ) (t : Triple) (within : 
 
 -- ---- flags
 
-not_true : false ≡ true → ⊥
+pub not_true : false ≡ true → ⊥
 not_true h = cc
 
 first_flag : (r d : ℕ) (v : Option Value) (es : Column) → IfSome v (λ x. IsTrue (fits_leaf x flag) × (text_length x < 2 ^ 32)) → values_in es ≡ map cell.flag (flags_in es)

@@ -20,6 +20,14 @@ ArePlain kind values bytes = (plains : List Plain) × (bytes ≡ plain_values pl
 abbrev pub plain_size : List Value → ℕ
 plain_size values = sum_by (λ v. 8 + text_length v) values
 
+-- 16 for each entry, and the length of its text
+abbrev pub entry_weight : Option Value → ℕ
+entry_weight None = 16
+entry_weight (Some v) = 16 + text_length v
+
+abbrev pub column_weight : Column → ℕ
+column_weight triples = sum_by (λ e. entry_weight e.value) triples
+
 -- the flag, if it is one
 abbrev pub flag_of : Value → Option Bool
 flag_of (cell.flag b) = Some b

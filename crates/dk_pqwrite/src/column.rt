@@ -2,7 +2,7 @@
 
 /// What a column's values are (Apache Parquet, "Types"): BOOLEAN, INT32, INT64 or BYTE_ARRAY.
 #[derive(Clone, Copy, Debug, PartialEq, Eq)]
-pub enum LeafKind {
+pub(crate) enum LeafKind {
     Flag,
     Int32,
     Int64,
@@ -11,7 +11,7 @@ pub enum LeafKind {
 
 /// A column that is written: its kind, and its greatest levels.
 #[derive(Clone, Copy, Debug, PartialEq, Eq)]
-pub struct LeafColumn {
+pub(crate) struct LeafColumn {
     pub kind: LeafKind,
     /// The greatest repetition level: how many lists are around its values.
     pub rep: u8,

@@ -39,7 +39,7 @@ pub(crate) fn add_levels(
     greatest: u8,
     levels: &[u32],
 ) -> Result<(), AllocError>
-    requires few { length levels.now < 2 ^ 26 }
+    requires few { length levels.now ≤ 2 ^ 26 }
     requires within { All (λ level. level ≤ greatest) levels.now }
     ensures { OnOk result (AddsLevels greatest levels.now body.old.items body.new.items) }
 {

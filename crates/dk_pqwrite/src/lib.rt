@@ -2,7 +2,10 @@
 #![tactic(auto)]
 
 mod column;
+mod dictionary;
 mod flags;
 mod header;
 mod levels;
+mod page;
+mod places;
 mod values;
