@@ -1,0 +1,6 @@
+pub mod AddingLevels
+pub mod AddingPlain
+pub mod BuildingPages
+pub mod HeaderSpelling
+pub mod Packing
+pub mod Uses

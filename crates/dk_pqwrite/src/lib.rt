@@ -1,0 +1,11 @@
+//! Rows written as the bytes of a Parquet file.
+#![tactic(auto)]
+
+mod column;
+mod dictionary;
+mod flags;
+mod header;
+mod levels;
+mod page;
+mod places;
+mod values;

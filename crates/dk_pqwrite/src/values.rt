@@ -1,0 +1,111 @@
+//! Values in the encoding PLAIN (Apache Parquet, "Plain").
+
+ghost use Rattle.std.specs.Prelude.{◌≡◌, ◌≢◌, ◌∷◌, [], ◌+◌, ◌<◌, ◌^◌, All, IfOk, IsTrue, OnOk, length, map, option_and_then};
+ghost use Rattle.dk_pqmodel.specs.ColumnView.{entry_of, value_of};
+ghost use Rattle.dk_pqmodel.specs.Datum.{chars, int};
+ghost use Rattle.dk_pqmodel.specs.FilePages.{InPlain};
+ghost use Rattle.dk_pqmodel.specs.Fits.{fits_leaf};
+ghost use Rattle.dk_pqmodel.specs.Shape.{chars as shape_chars, flag as shape_flag};
+ghost use Rattle.dk_pqmodel.specs.Weight.{text_length};
+ghost use Rattle.dk_pqwrite.specs.Adding.{Adds};
+ghost use Rattle.dk_pqwrite.specs.PlainValues.{ArePlain, FitsEntry, flag_of, flags_in, plain_size};
+ghost use Rattle.dk_pqwrite.specs.WrittenColumn.{leaf_of, values_in};
+
+use crate::column::LeafKind;
+use crate::flags::add_flags;
+use crate::levels::add_sized;
+use dk_pqmodel::{Triple, Value};
+use std::alloc::{AllocError, Global};
+
+/// Adds the values of triples, one behind another, and flags bit by bit.
+pub(crate) fn add_plain(
+    alloc: Global,
+    out: &mut Vec<u8>,
+    kind: LeafKind,
+    triples: &[Triple],
+) -> Result<(), AllocError>
+    requires { All (FitsEntry (leaf_of kind)) (map entry_of triples.now) }
+    ensures { OnOk result (Adds (InPlain (leaf_of kind) (values_in (map entry_of triples.now))) (plain_size (values_in (map entry_of triples.now))) out.old.items out.new.items) }
+{
+    match kind {
+        LeafKind::Flag => {
+            let flags = flags_in(alloc, triples)?;
+            add_flags(out, &flags)
+        }
+        LeafKind::Int32 | LeafKind::Int64 | LeafKind::Chars => add_values(out, kind, triples),
+    }
+}
+
+fn flags_in(alloc: Global, triples: &[Triple]) -> Result<Vec<bool>, AllocError>
+    ensures { IfOk result (λ v. v.items ≡ flags_in (map entry_of triples.now)) }
+{
+    let mut flags = Vec::new(alloc);
+    for triple in triples {
+        if let Some(flag) = flag_of(triple) {
+            flags.push(flag)?;
+        }
+    }
+    Ok(flags)
+}
+
+/// The flag that an entry has, if it has one.
+fn flag_of(triple: &Triple) -> Option<bool>
+    ensures { result ≡ option_and_then flag_of (entry_of triple.now).value }
+{
+    match &triple.value {
+        Some(Value::Flag(flag)) => Some(*flag),
+        _ => None,
+    }
+}
+
+/// Adds numbers or texts.
+fn add_values(out: &mut Vec<u8>, kind: LeafKind, triples: &[Triple]) -> Result<(), AllocError>
+    requires kind { leaf_of kind ≢ shape_flag }
+    requires fit { All (FitsEntry (leaf_of kind)) (map entry_of triples.now) }
+    ensures { OnOk result (Adds (ArePlain (leaf_of kind) (values_in (map entry_of triples.now))) (plain_size (values_in (map entry_of triples.now))) out.old.items out.new.items) }
+{
+    for triple in triples {
+        if let Some(value) = &triple.value {
+            add_value(out, kind, value)?;
+        }
+    }
+    Ok(())
+}
+
+fn add_value(out: &mut Vec<u8>, kind: LeafKind, value: &Value) -> Result<(), AllocError>
+    requires kind { leaf_of kind ≢ shape_flag }
+    requires fits { IsTrue (fits_leaf (value_of value.now) (leaf_of kind)) }
+    requires short { text_length (value_of value.now) < 2 ^ 32 }
+    ensures { OnOk result (Adds (ArePlain (leaf_of kind) (value_of value.now ∷ [])) (8 + text_length (value_of value.now)) out.old.items out.new.items) }
+{
+    match value {
+        Value::Flag(_) => unreachable!(),
+        Value::Int(number) => add_number(out, kind, *number),
+        Value::Chars(text) => add_text(out, text.as_str()),
+    }
+}
+
+fn add_number(out: &mut Vec<u8>, kind: LeafKind, number: i64) -> Result<(), AllocError>
+    requires { IsTrue (fits_leaf (int number) (leaf_of kind)) }
+    ensures { OnOk result (Adds (ArePlain (leaf_of kind) (int number ∷ [])) 8 out.old.items out.new.items) }
+{
+    match kind {
+        LeafKind::Int32 => {
+            let short = number as i32;
+            out.extend_from_slice(&short.cast_unsigned().to_le_bytes())?;
+        }
+        LeafKind::Int64 => {
+            out.extend_from_slice(&number.cast_unsigned().to_le_bytes())?;
+        }
+        LeafKind::Flag | LeafKind::Chars => unreachable!(),
+    }
+    Ok(())
+}
+
+/// Adds a text behind its length.
+pub(crate) fn add_text(out: &mut Vec<u8>, text: &str) -> Result<(), AllocError>
+    requires { length text.now < 2 ^ 32 }
+    ensures { OnOk result (Adds (ArePlain shape_chars (chars text.now ∷ [])) (8 + length text.now) out.old.items out.new.items) }
+{
+    add_sized(out, text.as_bytes())
+}
