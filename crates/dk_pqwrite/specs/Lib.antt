@@ -1,0 +1,2 @@
+pub mod OverItself
+pub mod Written
