@@ -1,5 +1,9 @@
 pub mod BareRows
+pub mod ElementBytes
+pub mod FooterStructs
 pub mod Laid
 pub mod Names
+pub mod NodeElements
 pub mod OwnPaths
 pub mod OwnTree
+pub mod Structs
