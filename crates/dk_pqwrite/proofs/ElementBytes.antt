@@ -1,8 +1,8 @@
 -- The bytes of an element spell it.
-use Rattle.std.proofs.Common.{◌≡◌, ◌<◌, ◌≤◌, ◌^◌, ℕ, ℤ, pos, true, false, IsTrue, Option, Some, None, option_map, List, [], ◌∷◌, ◌++◌, length, refl, sym, ap, subst, ◌∙◌, append_assoc, arith, FitsSigned, w64, IsSome, IfSome}
+use Rattle.std.proofs.Common.{◌≡◌, ◌<◌, ◌^◌, ℕ, ℤ, pos, true, false, Option, Some, None, List, [], ◌∷◌, ◌++◌, length, refl, arith, FitsSigned, w64}
 use Rattle.std.specs.Str.{is_utf8}
-use Rattle.dk_grammar.specs.Thrift.{is_id, is_kind}
-use Rattle.dk_grammar.specs.Structs.{Listed, SpellsStruct, SpellsNumberField}
+use Rattle.dk_grammar.specs.Thrift.{is_id}
+use Rattle.dk_grammar.specs.Structs.{Listed, SpellsNumberField}
 use Rattle.dk_grammar.specs.Lists.{Either, held, other, is_held, SpellsHeldOr}
 use Rattle.dk_grammar.proofs.WrittenSpellings.{whole_written, binary_written}
 use Rattle.dk_pqmodel.specs.FooterBytes.{SpellsElement, SpellsName}
@@ -63,15 +63,24 @@ read_back name (Some r) (Some p) (Some c) (Some v) = refl
 pub element_spelled : (name : List ℕ) (repetition physical children converted : Option ℕ) → is_utf8 name ≡ true → length name < 2 ^ 64
     → IsSmall repetition → IsSmall physical → IsSmall children → IsSmall converted
     → SpellsElement (struct_bytes (element_items name repetition physical children converted)) (fields_said name repetition physical children)
-element_spelled name repetition physical children converted utf8 short r p c v =
-    (
-      parts name repetition physical children converted,
-      struct_spelled spells (element_items name repetition physical children converted) (parts name repetition physical children converted)
-      (optional_says 1 physical _ _ refl refl p (optional_says 3 repetition _ _ refl refl r
-      (Some (held name), (optional_part 5 children (optional_part 6 converted []), (refl, refl, refl, (refl, (binary_written name short, utf8)),
-      optional_says 5 children _ _ refl refl c (last_says 6 converted refl refl v)))))),
-      read_back name repetition physical children converted,
-    )
+element_spelled name repetition physical children converted utf8 short r p c v = (
+  parts name repetition physical children converted,
+  struct_spelled spells (element_items name repetition physical children converted) (parts name repetition physical children converted)
+      (optional_says 1 physical _ _ refl refl p (optional_says 3 repetition _ _ refl refl r (
+        Some (held name),
+        (
+          optional_part 5 children (optional_part 6 converted []),
+          (
+            refl,
+            refl,
+            refl,
+            (refl, (binary_written name short, utf8)),
+            optional_says 5 children _ _ refl refl c (last_says 6 converted refl refl v),
+          ),
+        ),
+      ))),
+  read_back name repetition physical children converted,
+)
 
 pub element_written : (name : List ℕ) (repetition physical children converted : Option ℕ) (old inner a b d e f new : Writing)
     → inner ≡ with_struct old → a ≡ with_items (optional_items 1 5 physical) inner → b ≡ with_items (optional_items 3 5 repetition) a → d ≡ with_items (text_item 4 name ∷ []) b

@@ -1,22 +1,22 @@
 -- The structs of a footer, as they are written.
-use Rattle.std.proofs.Common.{◌≡◌, ◌<◌, ◌≤◌, ◌^◌, ℕ, zero, suc, ℤ, pos, true, false, nat_le, int_le, IsTrue, Option, Some, None, option_map, IfSome, List, [], ◌∷◌, ◌++◌, length, map, refl, sym, ap, subst, ◌∙◌, arith, lit<, FitsSigned, w64}
+use Rattle.std.proofs.Common.{◌≡◌, ◌<◌, ◌^◌, ℕ, ℤ, pos, Option, Some, None, option_map, IfSome, List, [], ◌∷◌, length, refl, lit<, FitsSigned, w64}
 use Rattle.dk_grammar.specs.Thrift.{head}
-use Rattle.dk_grammar.specs.Grammar.{SpellsWhole, SpellsBinary}
+use Rattle.dk_grammar.specs.Grammar.{SpellsWhole}
 use Rattle.dk_grammar.specs.Nested.{Repeats, SpellsElement, SpellsValue}
 use Rattle.dk_grammar.specs.Structs.{Listed, SpellsNumberField}
 use Rattle.dk_grammar.specs.Lists.{Either, held, other, SpellsEach, SpellsListOf, SpellsHeldOr}
 use Rattle.dk_grammar.specs.declared.thrift.Kind.TheVariants as kinds
-use Rattle.dk_grammar.proofs.WrittenSpellings.{whole_written, binary_written}
+use Rattle.dk_grammar.proofs.WrittenSpellings.{whole_written}
 use Rattle.dk_thrift.specs.Writing.{Writing, IsOpen, with_bytes, with_struct, with_end}
 use Rattle.dk_pqmodel.specs.Laid.{Path}
-use Rattle.dk_pqmodel.specs.Footer.{meta_fields, chunk_fields, group_fields, MetaFields, ChunkFields, GroupFields}
+use Rattle.dk_pqmodel.specs.Footer.{meta_fields, MetaFields, ChunkFields}
 use Rattle.dk_pqmodel.specs.FooterBytes.{SpellsPath, SpellsMeta, SpellsChunk, SpellsGroup}
 use Rattle.dk_pqwrite.specs.declared.chunk.Chunk.{Chunk}
-use Rattle.dk_pqwrite.specs.Chunks.{IsFit, path_of_chunk, meta_said, chunk_said, group_said}
+use Rattle.dk_pqwrite.specs.Chunks.{IsFit, path_of_chunk, meta_said}
 use Rattle.dk_pqwrite.specs.Items.{Item, number_item, optional_items, struct_bytes, with_items, Puts, Adds, PutsHeld}
 use Rattle.dk_pqwrite.proofs.Structs.{Says, struct_spelled, items_then, struct_ended, still_open}
 
-fits : (n : ℕ) → n < 2 ^ 63 → FitsSigned w64 (pos n)
+pub fits : (n : ℕ) → n < 2 ^ 63 → FitsSigned w64 (pos n)
 fits n h = record { sfits = h }
 
 -- ---- a list of whole numbers is passed over
@@ -36,7 +36,7 @@ PathPart = Either Path ℤ
 abbrev meta_spells : ℤ → ℕ → List ℕ → Option PathPart → Type 0
 meta_spells = SpellsHeldOr (pos 3) 9 SpellsPath SpellsNumberField
 
-abbrev item : ℕ → ℕ → List ℕ → Item
+abbrev pub item : ℕ → ℕ → List ℕ → Item
 item id kind bytes = record { id = pos id; kind = kind; bytes = bytes }
 
 abbrev place_part : Option ℕ → Listed PathPart
@@ -63,16 +63,103 @@ meta_parts physical path values size first place =
 meta_says : (physical : ℕ) (encodings path_bytes : List ℕ) (path : Path) (values size first : ℕ) (place : Option ℕ) → physical < 2 ^ 63 → SpellsValue 9 encodings → SpellsPath path_bytes path
     → values < 2 ^ 63 → size < 2 ^ 63 → first < 2 ^ 63 → IsPlace place
     → Says meta_spells (meta_items physical encodings path_bytes values size first place) (meta_parts physical path values size first place)
-meta_says physical encodings path_bytes path values size first place p e h v s f d =
-    (Some (other (pos physical)), (_, (refl, refl, refl, (refl, (refl, whole_written (pos physical) (fits physical p))),
-    (None, (_, (refl, refl, refl, (refl, (refl, e)),
-    (Some (held path), (_, (refl, refl, refl, (refl, h),
-    (Some (other (pos 0)), (_, (refl, refl, refl, (refl, (refl, whole_written (pos 0) (fits 0 (lit< tt)))),
-    (Some (other (pos values)), (_, (refl, refl, refl, (refl, (refl, whole_written (pos values) (fits values v))),
-    (Some (other (pos size)), (_, (refl, refl, refl, (refl, (refl, whole_written (pos size) (fits size s))),
-    (Some (other (pos size)), (_, (refl, refl, refl, (refl, (refl, whole_written (pos size) (fits size s))),
-    (Some (other (pos first)), (_, (refl, refl, refl, (refl, (refl, whole_written (pos first) (fits first f))),
-    place_says place d))))))))))))))))))))))))
+meta_says physical encodings path_bytes path values size first place p e h v s f d = (
+  Some (other (pos physical)),
+  (
+    _,
+    (
+      refl,
+      refl,
+      refl,
+      (refl, (refl, whole_written (pos physical) (fits physical p))),
+      (
+        None,
+        (
+          _,
+          (
+            refl,
+            refl,
+            refl,
+            (refl, (refl, e)),
+            (
+              Some (held path),
+              (
+                _,
+                (
+                  refl,
+                  refl,
+                  refl,
+                  (refl, h),
+                  (
+                    Some (other (pos 0)),
+                    (
+                      _,
+                      (
+                        refl,
+                        refl,
+                        refl,
+                        (refl, (refl, whole_written (pos 0) (fits 0 (lit< tt)))),
+                        (
+                          Some (other (pos values)),
+                          (
+                            _,
+                            (
+                              refl,
+                              refl,
+                              refl,
+                              (refl, (refl, whole_written (pos values) (fits values v))),
+                              (
+                                Some (other (pos size)),
+                                (
+                                  _,
+                                  (
+                                    refl,
+                                    refl,
+                                    refl,
+                                    (refl, (refl, whole_written (pos size) (fits size s))),
+                                    (
+                                      Some (other (pos size)),
+                                      (
+                                        _,
+                                        (
+                                          refl,
+                                          refl,
+                                          refl,
+                                          (refl, (refl, whole_written (pos size) (fits size s))),
+                                          (
+                                            Some (other (pos first)),
+                                            (
+                                              _,
+                                              (
+                                                refl,
+                                                refl,
+                                                refl,
+                                                (refl, (refl, whole_written (pos first) (fits first f))),
+                                                place_says place d,
+                                              ),
+                                            ),
+                                          ),
+                                        ),
+                                      ),
+                                    ),
+                                  ),
+                                ),
+                              ),
+                            ),
+                          ),
+                        ),
+                      ),
+                    ),
+                  ),
+                ),
+              ),
+            ),
+          ),
+        ),
+      ),
+    ),
+  ),
+)
 
 meta_back : (physical : ℕ) (path : Path) (values size first : ℕ) (place : Option ℕ) → (record {
   physical = Some (pos physical);
@@ -85,7 +172,7 @@ meta_back : (physical : ℕ) (path : Path) (values size first : ℕ) (place : Op
 meta_back physical path values size first None = refl
 meta_back physical path values size first (Some n) = refl
 
-abbrev With : List Item → Writing → Writing → Type 0
+abbrev pub With : List Item → Writing → Writing → Type 0
 With items old new = new ≡ with_items items old
 
 module _ (c : Chunk) (fit : IsFit c) (old inner a : Writing) (d e f g h i j k new : Writing) (encodings : List ℤ) where
@@ -118,7 +205,7 @@ module _ (c : Chunk) (fit : IsFit c) (old inner a : Writing) (d e f g h i j k ne
         spelled = (
           parts,
           struct_spelled meta_spells all parts
-          (meta_says c.physical second.bytes third.bytes (path_of_chunk c) c.values c.size c.first_page c.dictionary_page small (wholes_passed encodings second.bytes second.spelled) third.spelled fit.values fit.size fit.first fit.dictionary),
+              (meta_says c.physical second.bytes third.bytes (path_of_chunk c) c.values c.size c.first_page c.dictionary_page small (wholes_passed encodings second.bytes second.spelled) third.spelled fit.values fit.size fit.first fit.dictionary),
           meta_back c.physical (path_of_chunk c) c.values c.size c.first_page c.dictionary_page,
         );
         goes_on = still_open (struct_bytes all) old new written stands;
@@ -166,9 +253,31 @@ group_added chunks size rows old inner a b d new small few stands begun first se
       written = written;
       spelled = (
         parts,
-        struct_spelled group_spells all parts (Some (held chunks), (_, (refl, refl, refl, (refl, first.spelled),
-        (Some (other (pos size)), (_, (refl, refl, refl, (refl, (refl, whole_written (pos size) (fits size small))),
-        (Some (other (pos rows)), (_, (refl, refl, refl, (refl, (refl, whole_written (pos rows) (fits rows few))), refl))))))))),
+        struct_spelled group_spells all parts (
+          Some (held chunks),
+          (
+            _,
+            (
+              refl,
+              refl,
+              refl,
+              (refl, first.spelled),
+              (
+                Some (other (pos size)),
+                (
+                  _,
+                  (
+                    refl,
+                    refl,
+                    refl,
+                    (refl, (refl, whole_written (pos size) (fits size small))),
+                    (Some (other (pos rows)), (_, (refl, refl, refl, (refl, (refl, whole_written (pos rows) (fits rows few))), refl))),
+                  ),
+                ),
+              ),
+            ),
+          ),
+        ),
         refl,
       );
       goes_on = still_open (struct_bytes all) old new written stands;

@@ -7,3 +7,4 @@ pub mod NodeElements
 pub mod OwnPaths
 pub mod OwnTree
 pub mod Structs
+pub mod WholeFooters

@@ -1,9 +1,8 @@
 -- The elements of nodes, one behind another.
-use Rattle.std.proofs.Common.{◌≡◌, ◌<◌, ◌≤◌, ◌^◌, ℕ, zero, suc, ◌+◌, nat_lt, Bool, true, false, ℤ, pos, Option, Some, None, option_map, option_and_then, List, [], ◌∷◌, ◌++◌, length, drop, get_or, codes, rules, IfSome, Vec, Box, Global, string_bytes, refl, sym, ap, ap₂, subst, ◌∙◌, arith, add-one}
+use Rattle.std.proofs.Common.{◌≡◌, ◌<◌, ◌≤◌, ◌^◌, ℕ, suc, ◌+◌, Bool, ℤ, pos, Option, Some, None, option_map, option_and_then, List, [], ◌∷◌, ◌++◌, length, drop, get_or, codes, rules, IfSome, Vec, Box, Global, string_bytes, refl, sym, ap, subst, ◌∙◌, arith}
 use Rattle.std.proofs.lemmas.List.{length-append, drop_all, append-nil}
 use Rattle.std.proofs.lemmas.Bool.{lt-ltb}
-use Rattle.dk_grammar.specs.Lists.{SpellsEach}
-use Rattle.dk_thrift.specs.Writing.{Writing, IsOpen, with_bytes}
+use Rattle.dk_thrift.specs.Writing.{Writing, IsOpen}
 use Rattle.dk_pqmodel.specs.Shape.{Leaf, flag, int32, int64, chars, Shape, leaf, dictionary, Field, field, Fields, no_fields, one_field, name_in, shape_in, is_nullable}
 use Rattle.dk_pqmodel.specs.Shape as shape
 use Rattle.dk_pqmodel.specs.NodeView.{fields_of, field_of, shape_of}
@@ -48,7 +47,7 @@ elements_then fs gs es ds u v w first second = record {
 pub no_elements : (w : Writing) → IsOpen w → AddsNodes no_nodes w w
 no_elements w h = record { more = []; written = none_added w; spelled = refl; read = refl; goes_on = h }
 
-one_element : (f : ElementFields) (e : Element) (u v : Writing) → element_of f ≡ Some e → Adds SpellsElement f u v → AddsElements (f ∷ []) (e ∷ []) u v
+pub one_element : (f : ElementFields) (e : Element) (u v : Writing) → element_of f ≡ Some e → Adds SpellsElement f u v → AddsElements (f ∷ []) (e ∷ []) u v
 one_element f e u v read a = record { more = a.more; written = a.written; spelled = one_each SpellsElement f a.more a.spelled; read = rw read refl; goes_on = a.goes_on }
 
 -- an element, and then its children's
@@ -85,7 +84,7 @@ pub list_added : (k : NodeKind) (b : Box Node Global) (n : Node) (f : ElementFie
 list_added k b n f u v w is same named first inner =
     let e = field_of n in
     let whole = only_added (list_node e) u w (node_added (codes "list") 2 None (one_node (written_as (codes "element") e) no_nodes) f u v w (record { said = named; read = refl }) first
-        (only_added (written_as (codes "element") e) v w inner)) in
+    (only_added (written_as (codes "element") e) v w inner)) in
     subst (λ s. AddsNodes (nodes_at s) u w) (ap (λ m. shape.list (field_of m)) same ∙ sym (ap shape_of is ∙ shape_of-List b)) whole
 
 pub map_added : (k : NodeKind) (b : Box Node Global) (n : Node) (f g : ElementFields) (u v w x : Writing) → k ≡ Map b → n ≡ b.value → f ≡ fields_said (codes "key_value") (Some 2) None (Some 2) → Adds SpellsElement f u v
@@ -100,7 +99,7 @@ map_added k b n f g u v w x is same named first key second inner =
 
 -- ---- the element of a field
 
-count_is : (ns : List Node) → count_of (written_nodes (fields_of ns)) ≡ length ns
+pub count_is : (ns : List Node) → count_of (written_nodes (fields_of ns)) ≡ length ns
 count_is [] = refl
 count_is (n ∷ ns) = ap suc (count_is ns)
 
@@ -154,10 +153,11 @@ written_named n = rw (field_of-is n) refl
 
 pub next_node : (ns : List Node) (i : ℕ) (n : Node) (old now new : Writing) → i < length ns → n ≡ get_or ns i n → GoesOn ns i old now → AddsNode (written_as (string_bytes n.name) (field_of n)) now new
     → GoesOn ns (i + 1) old new
-next_node ns i n old now new room is before added =
-    (added.goes_on,
-    λ last rest. before.1 last (subst (λ fs. AddsNodes (written_nodes fs) now last) (sym (fields_of-drop ns i n room is))
-    (more_added (written_in (field_of n)) (written_nodes (fields_of (drop (i + 1) ns))) now new last (subst (λ m. AddsNode m now new) (sym (written_named n)) added) rest)))
+next_node ns i n old now new room is before added = (
+  added.goes_on,
+  λ last rest. before.1 last (subst (λ fs. AddsNodes (written_nodes fs) now last) (sym (fields_of-drop ns i n room is))
+      (more_added (written_in (field_of n)) (written_nodes (fields_of (drop (i + 1) ns))) now new last (subst (λ m. AddsNode m now new) (sym (written_named n)) added) rest)),
+)
 
 drop_past : (ns : List Node) (i : ℕ) → length ns ≤ i → drop i ns ≡ []
 drop_past ns i h = grind (arith, drop_all)

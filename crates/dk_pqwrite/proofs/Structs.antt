@@ -1,12 +1,11 @@
 -- What is written field by field is a struct of these fields.
-use Rattle.std.proofs.Common.{◌≡◌, ◌≢◌, ◌<◌, ◌≤◌, ◌^◌, ◌+◌, ℕ, zero, suc, true, map, drop, get_or, add-one, ℤ, pos, IsTrue, IsFalse, Option, Some, None, option_map, List, [], ◌∷◌, ◌++◌, length, refl, sym, ap, ap₂, subst, ◌∙◌, append_assoc, arith, FitsSigned, w64}
+use Rattle.std.proofs.Common.{◌≡◌, ◌≢◌, ◌<◌, ◌≤◌, ◌^◌, ◌+◌, ℕ, zero, suc, true, map, drop, get_or, add-one, ℤ, pos, IsTrue, Option, List, [], ◌∷◌, ◌++◌, length, refl, sym, ap, subst, ◌∙◌, append_assoc, arith}
 use Rattle.std.proofs.lemmas.List.{append-nil, drop_all, length-map}
 use Rattle.dk_grammar.specs.Thrift.{is_id, is_kind, head}
-use Rattle.dk_grammar.specs.Grammar.{SpellsField, SpellsList}
+use Rattle.dk_grammar.specs.Grammar.{SpellsList}
 use Rattle.dk_grammar.specs.Spelling.{field_bytes, list_bytes}
-use Rattle.dk_grammar.specs.Structs.{Listed, under, is_whole, SpellsFields, SpellsStruct, SpellsNumberField}
+use Rattle.dk_grammar.specs.Structs.{Listed, under, SpellsFields, SpellsStruct}
 use Rattle.dk_grammar.specs.Lists.{SpellsEach, SpellsListOf}
-use Rattle.dk_grammar.specs.declared.thrift.Field.TheVariants.{End, Next}
 use Rattle.dk_grammar.proofs.WrittenSpellings.{field_written, end_written, list_written}
 use Rattle.dk_thrift.specs.Writing.{Writing, IsOpen, field_in, with_bytes, with_struct, with_field, with_end}
 use Rattle.dk_pqwrite.specs.Items.{Item, items_bytes, struct_bytes, with_items, Adds, PutsHeld}
@@ -55,9 +54,30 @@ module _ {V : Type 0} (spells : ℤ → ℕ → List ℕ → Option V → Type 0
   items_spelled : (items : List Item) (last : ℤ) (values : Listed V) → Says items values → SpellsFields spells (length items) last (items_bytes last items) values
   items_spelled [] last values s = (end_written last, s)
   items_spelled (x ∷ xs) last values s =
-      let said = s.1.1 in
-      (x.id, (x.kind, (s.0, (s.1.0, (said.0, (field_bytes last x.id x.kind, (x.bytes ++ items_bytes x.id xs, refl, field_written last x.id x.kind said.1 said.2,
-      (x.bytes, (items_bytes x.id xs, refl, said.3, items_spelled xs x.id s.1.0 said.4)))))))))
+      let said = s.1.1 in (
+        x.id,
+        (
+          x.kind,
+          (
+            s.0,
+            (
+              s.1.0,
+              (
+                said.0,
+                (
+                  field_bytes last x.id x.kind,
+                  (
+                    x.bytes ++ items_bytes x.id xs,
+                    refl,
+                    field_written last x.id x.kind said.1 said.2,
+                    (x.bytes, (items_bytes x.id xs, refl, said.3, items_spelled xs x.id s.1.0 said.4)),
+                  ),
+                ),
+              ),
+            ),
+          ),
+        ),
+      )
 
   pub struct_spelled : (items : List Item) (values : Listed V) → Says items values → SpellsStruct spells (struct_bytes items) values
   struct_spelled items values s = (length items, items_spelled items (pos 0) values s)
@@ -101,9 +121,10 @@ module _ {A B : Type 0} (spells : List ℕ → B → Type 0) (view : A → B) wh
   }
 
   pub next_value : (xs : List A) (i : ℕ) (x : A) (old now new : Writing) → i < length xs → x ≡ get_or xs i x → GoesOn spells view xs i old now → Adds spells (view x) now new → GoesOn spells view xs (i + 1) old new
-  next_value xs i x old now new room is before added =
-      (added.goes_on,
-      λ last rest. before.1 last (subst (λ left. Adds (SpellsEach spells) (map view left) now last) (sym (drop_next xs i x room is)) (one_more (view x) (map view (drop (i + 1) xs)) now new last added rest)))
+  next_value xs i x old now new room is before added = (
+    added.goes_on,
+    λ last rest. before.1 last (subst (λ left. Adds (SpellsEach spells) (map view left) now last) (sym (drop_next xs i x room is)) (one_more (view x) (map view (drop (i + 1) xs)) now new last added rest)),
+  )
 
   pub all_values : (xs : List A) (i : ℕ) (old now : Writing) → length xs ≤ i → GoesOn spells view xs i old now → Adds (SpellsEach spells) (map view xs) old now
   all_values xs i old now past before = before.1 now (subst (λ left. Adds (SpellsEach spells) (map view left) now now) (sym (drop_past xs i past)) (none_more spells now before.0))

@@ -1,5 +1,5 @@
 -- What is said of the chunks and of their row group.
-use Rattle.std.specs.Prelude.{◌≡◌, ◌<◌, ◌^◌, ℕ, pos, IfSome, Some, option_map, List, map, string_bytes, Bool, true, false, ◌∷◌, [], codes}
+use Rattle.std.specs.Prelude.{◌<◌, ◌^◌, ℕ, pos, IfSome, Some, option_map, List, map, string_bytes, Bool, true, false, ◌∷◌, []}
 use Rattle.dk_pqmodel.specs.Laid.{Path}
 use Rattle.dk_pqmodel.specs.Footer as plain
 use Rattle.dk_pqmodel.specs.Footer.{MetaFields, ChunkFields, GroupFields}

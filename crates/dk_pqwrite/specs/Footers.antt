@@ -1,5 +1,5 @@
 -- The footer that is written, and the file that it ends.
-use Rattle.std.specs.Prelude.{◌≡◌, ℕ, pos, Some, None, List, [], ◌∷◌, ◌++◌, map, codes}
+use Rattle.std.specs.Prelude.{◌≡◌, ℕ, Some, None, List, [], ◌∷◌, map, codes}
 use Rattle.dk_grammar.specs.Lists.{SpellsListOf}
 use Rattle.dk_thrift.specs.Writing.{Writing}
 use Rattle.dk_pqmodel.specs.Shape.{Fields}

@@ -1,4 +1,4 @@
-use Rattle.std.proofs.Common.{rules, ◌≡◌, ◌<◌, ◌^◌, pos, FitsSigned, w64}
+use Rattle.std.proofs.Common.{rules, ◌≡◌, ◌<◌, ◌^◌, pos}
 use Rattle.dk_grammar.specs.Spelling.{whole_bytes}
 use Rattle.dk_grammar.proofs.WrittenSpellings.{whole_written}
 use Rattle.dk_thrift.specs.Writing.{with_bytes}
