@@ -1,6 +1,16 @@
 pub mod AddingLevels
 pub mod AddingPlain
+pub mod BareRows
 pub mod BuildingPages
+pub mod ElementBytes
+pub mod FooterStructs
 pub mod HeaderSpelling
+pub mod Laid
+pub mod Names
+pub mod NodeElements
+pub mod OwnPaths
+pub mod OwnTree
 pub mod Packing
+pub mod Structs
 pub mod Uses
+pub mod WholeFooters

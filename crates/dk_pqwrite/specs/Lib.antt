@@ -1,7 +1,13 @@
 pub mod AddedLevels
 pub mod Adding
+pub mod Chunks
 pub mod DataPages
+pub mod Elements
 pub mod FirstUses
+pub mod Footers
 pub mod HeaderBytes
+pub mod Items
+pub mod OverItself
 pub mod PlainValues
+pub mod Written
 pub mod WrittenColumn

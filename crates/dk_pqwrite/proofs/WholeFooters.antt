@@ -1,0 +1,193 @@
+-- A footer is spelled by its parts, and the file by the footer.
+use Rattle.std.proofs.Common.{◌≡◌, ◌<◌, ◌^◌, ◌+◌, ◌==◌, ℕ, ℤ, pos, nat_le, true, false, Option, Some, None, option_map, IfSome, All, List, [], ◌∷◌, ◌++◌, length, map, codes, refl, sym, ap, subst, ◌∙◌, arith, lit<, append_assoc}
+use Rattle.std.proofs.lemmas.Bool.{lt-ltb, le-leb, ne_eqb}
+use Rattle.std.specs.List.{AllByRecursion}
+use Rattle.std.proofs.lemmas.List.Elements.{recursion_from_All}
+use Rattle.dk_grammar.specs.Plain.{little}
+use Rattle.dk_grammar.specs.Spelling.{list_bytes}
+use Rattle.dk_grammar.specs.Structs.{Listed, SpellsStruct, SpellsNumberField}
+use Rattle.dk_grammar.specs.Lists.{Either, held, other, SpellsListOf, SpellsHeldOr}
+use Rattle.dk_grammar.proofs.WrittenSpellings.{whole_written, binary_written}
+use Rattle.dk_thrift.specs.Writing.{Writing, with_bytes, with_field, with_struct, with_end}
+use Rattle.dk_pqmodel.specs.Shape.{Fields}
+use Rattle.dk_pqmodel.specs.Schema.{IsSchema}
+use Rattle.dk_pqmodel.specs.NodeView.{fields_of}
+use Rattle.dk_pqmodel.specs.Footer as plain
+use Rattle.dk_pqmodel.specs.Footer.{FileFields, ElementFields, GroupFields, ChunkFields, Element, file_fields, count_of, flat_of, each_of, element_of, chunk_of, group_of, if_distinct, place_of, MeansFooter, ◌>=◌}
+use Rattle.dk_pqmodel.specs.FooterBytes.{SpellsElement, SpellsGroup, SpellsMetaData, SpellsFooter, magic}
+use Rattle.dk_pqmodel.specs.declared.node.Node.{Node}
+use Rattle.dk_pqwrite.specs.declared.chunk.Chunk.{Chunk}
+use Rattle.dk_pqwrite.specs.Chunks.{IsFit, path_of_chunk, chunk_view, chunk_said, group_said}
+use Rattle.dk_pqwrite.specs.Elements.{fields_said, said_of, AddsNodes}
+use Rattle.dk_pqwrite.specs.Footers.{root_of, root_said, PutsSchema, AreColumnsOf, footer_of, EndsFile}
+use Rattle.dk_pqwrite.specs.Items.{number_item, text_item, struct_bytes, Puts, Adds, PutsHeld}
+use Rattle.dk_pqwrite.specs.OverItself.{path_in}
+use Rattle.dk_pqwrite.specs.Written.{written_nodes}
+use Rattle.dk_pqwrite.proofs.FooterStructs.{fits, item, With}
+use Rattle.dk_pqwrite.proofs.NodeElements.{count_is, one_element, elements_then}
+use Rattle.dk_pqwrite.proofs.OwnPaths.{chunks_distinct}
+use Rattle.dk_pqwrite.proofs.OwnTree.{own_tree}
+use Rattle.dk_pqwrite.proofs.Structs.{struct_spelled, items_then, struct_ended, list_held}
+
+-- ---- the schema
+
+pub root_is : (ns : List Node) → fields_said (codes "root") None None (Some (length ns)) ≡ root_said (fields_of ns)
+root_is ns = ap (λ n. fields_said (codes "root") None None (Some n)) (sym (count_is ns))
+
+pub root_few : (ns : List Node) → length ns < 2 ^ 31 → count_of (written_nodes (fields_of ns)) < 2 ^ 31
+root_few ns h = subst (λ n. n < 2 ^ 31) (sym (count_is ns)) h
+
+root_read : (fs : Fields) → count_of (written_nodes fs) < 2 ^ 31 → element_of (root_said fs) ≡ Some (root_of fs)
+root_read fs h = rw (lt-ltb (count_of (written_nodes fs)) (2 ^ 31) h) refl
+
+one_more : (n : ℕ) (xs : List ElementFields) (x : ElementFields) → n ≡ length xs + 1 → n ≡ length (x ∷ xs)
+one_more n xs x e = omega (arith, e)
+
+pub schema_added : (fs : Fields) (f : ElementFields) (count : ℕ) (old header counted v new : Writing) → header ≡ with_field (pos 2) 9 old → counted ≡ with_bytes (list_bytes count 12) header
+    → count ≡ length (said_of (written_nodes fs)) + 1 → count < 2 ^ 32 → f ≡ root_said fs → count_of (written_nodes fs) < 2 ^ 31 → Adds SpellsElement f counted v → AddsNodes (written_nodes fs) v new
+    → PutsSchema fs old new
+schema_added fs f count old header counted v new e g same small named few first nodes =
+    let ns = written_nodes fs in
+    let root = one_element (root_said fs) (root_of fs) counted v (root_read fs few) (subst (λ s. Adds SpellsElement s counted v) named first) in
+    let all = elements_then (root_said fs ∷ []) (said_of ns) (root_of fs ∷ []) (flat_of ns) counted v new root nodes in
+    record {
+      held = list_held 2 12 count SpellsElement (root_said fs ∷ said_of ns) old header counted new e g (one_more count (said_of ns) (root_said fs) same) small refl
+          (record { more = all.more; written = all.written; spelled = all.spelled; goes_on = all.goes_on });
+      read = all.read;
+    }
+
+-- ---- the chunks
+
+small_type : (n : ℕ) → n < 2 ^ 31 → nat_le n 2147483647 ≡ true
+small_type n h = le-leb n 2147483647 (omega arith)
+
+place_again : (place : Option ℕ) → IfSome place (λ n. (0 < n) × (n < 2 ^ 63)) → (option_map pos place >= place_of) ≡ place
+place_again None h = refl
+place_again (Some n) h = rw (above n h.0) refl
+  where
+    above : (n : ℕ) → 0 < n → (n == 0) ≡ false
+    above n h = ne_eqb n 0 (λ same. (omega (arith, same, h)))
+
+chunk_again : (c : Chunk) → IsFit c → chunk_of (chunk_said c) ≡ Some (chunk_view c)
+chunk_again c fit = rw (small_type c.physical fit.physical, place_again c.dictionary_page fit.dictionary) refl
+
+chunks_again : (cs : List Chunk) → AllByRecursion IsFit cs → each_of chunk_of (map chunk_said cs) ≡ Some (map chunk_view cs)
+chunks_again [] h = refl
+chunks_again (c ∷ cs) h = rw (chunk_again c h.0, chunks_again cs h.1) refl
+
+paths_are : (cs : List Chunk) → map path_in (map chunk_view cs) ≡ map path_of_chunk cs
+paths_are [] = refl
+paths_are (c ∷ cs) = ap (λ ps. path_of_chunk c ∷ ps) (paths_are cs)
+
+group_again : (fs : Fields) (rows : ℕ) (cs : List Chunk) → IsSchema fs → All IsFit cs → AreColumnsOf fs cs → group_of (group_said cs rows) ≡ Some (record { rows = rows; columns = map chunk_view cs })
+group_again fs rows cs is fit columns = rw (chunks_again cs (recursion_from_All IsFit cs fit), chunks_distinct fs (map chunk_view cs) is (paths_are cs ∙ columns)) refl
+
+-- ---- the whole
+
+abbrev Groups : Type 0
+Groups = Either (List GroupFields) ℤ
+
+abbrev file_spells : ℤ → ℕ → List ℕ → Option (Either (List ElementFields) Groups) → Type 0
+file_spells = SpellsHeldOr (pos 2) 9 (SpellsListOf 12 SpellsElement) (SpellsHeldOr (pos 4) 9 (SpellsListOf 12 SpellsGroup) SpellsNumberField)
+
+abbrev empty : Writing
+empty = record { bytes = []; structs = [] }
+
+abbrev pub file_of : List ElementFields → ℕ → List GroupFields → FileFields
+file_of elements rows groups = record { schema = Some elements; rows = Some (pos rows); groups = Some groups }
+
+module _ (elements : List ElementFields) (rows : ℕ) (groups : List GroupFields) (author : List ℕ) (begun a b d e f new : Writing) where
+  pub file_added : rows < 2 ^ 63 → length author < 2 ^ 64 → begun ≡ with_struct empty → Puts (number_item 1 5 1 ∷ []) begun a → PutsHeld 2 9 (SpellsListOf 12 SpellsElement) elements a b
+      → Puts (number_item 3 6 rows ∷ []) b d → PutsHeld 4 9 (SpellsListOf 12 SpellsGroup) groups d e → Puts (text_item 6 author ∷ []) e f → new ≡ with_end f → SpellsMetaData new.bytes (file_of elements rows groups)
+  file_added few short started first second third fourth fifth ended =
+      let i4 = item 4 9 fourth.bytes ∷ text_item 6 author ∷ [] in
+      let i3 = number_item 3 6 rows ∷ i4 in
+      let i2 = item 2 9 second.bytes ∷ i3 in
+      let all = number_item 1 5 1 ∷ i2 in
+      let w4 : With i4 d f = items_then (item 4 9 fourth.bytes ∷ []) (text_item 6 author ∷ []) d e f fourth.written fifth.0 in
+      let w3 : With i3 b f = items_then (number_item 3 6 rows ∷ []) i4 b d f third.0 w4 in
+      let w2 : With i2 a f = items_then (item 2 9 second.bytes ∷ []) i3 a b f second.written w3 in
+      let w1 : With all begun f = items_then (number_item 1 5 1 ∷ []) i2 begun a f first.0 w2 in
+      let written : new.bytes ≡ struct_bytes all = ap (λ w. w.bytes) (struct_ended all empty begun f new started w1 ended) in
+      let parts : Listed (Either (List ElementFields) Groups) = (pos 1, other (other (pos 1))) ∷ (pos 2, held elements) ∷ (pos 3, other (other (pos rows))) ∷ (pos 4, other (held groups)) ∷ [] in (
+        parts,
+        subst (λ bytes. SpellsStruct file_spells bytes parts) (sym written) (struct_spelled file_spells all parts (
+          Some (other (other (pos 1))),
+          (
+            _,
+            (
+              refl,
+              refl,
+              refl,
+              (refl, (refl, (refl, whole_written (pos 1) (fits 1 (lit< tt))))),
+              (
+                Some (held elements),
+                (
+                  _,
+                  (
+                    refl,
+                    refl,
+                    refl,
+                    (refl, second.spelled),
+                    (
+                      Some (other (other (pos rows))),
+                      (
+                        _,
+                        (
+                          refl,
+                          refl,
+                          refl,
+                          (refl, (refl, (refl, whole_written (pos rows) (fits rows few)))),
+                          (
+                            Some (other (held groups)),
+                            (
+                              _,
+                              (
+                                refl,
+                                refl,
+                                refl,
+                                (refl, (refl, fourth.spelled)),
+                                (None, (_, (refl, refl, refl, (refl, (refl, (refl, (refl, (author, binary_written author short))))), refl))),
+                              ),
+                            ),
+                          ),
+                        ),
+                      ),
+                    ),
+                  ),
+                ),
+              ),
+            ),
+          ),
+        )),
+        refl,
+      )
+
+pub footer_spelled : (fs : Fields) (rows : ℕ) (cs : List Chunk) (bytes : List ℕ) → IsSchema fs → All IsFit cs → AreColumnsOf fs cs → each_of element_of (root_said fs ∷ said_of (written_nodes fs)) ≡ Some (root_of fs ∷ flat_of (written_nodes fs))
+    → SpellsMetaData bytes (file_of (root_said fs ∷ said_of (written_nodes fs)) rows (group_said cs rows ∷ [])) → SpellsFooter bytes (footer_of fs rows cs)
+footer_spelled fs rows cs bytes is fit columns read spelled = (
+  file_of (root_said fs ∷ said_of (written_nodes fs)) rows (group_said cs rows ∷ []),
+  spelled,
+  record {
+    elements = root_of fs ∷ flat_of (written_nodes fs);
+    schema = read;
+    tree = own_tree fs (root_of fs) is refl;
+    groups = rw (group_again fs rows cs is fit columns) refl;
+    rows = refl;
+  },
+)
+
+-- ---- the file
+
+pub file_ended : (footer : plain.Footer) (before part size bytes content : List ℕ) → SpellsFooter part footer → before ≡ magic ++ content → length part < 2 ^ 32 → size ≡ little 4 (length part)
+    → bytes ≡ ((before ++ part) ++ size) ++ magic → EndsFile footer before bytes
+file_ended footer before part size bytes content spelled begun small sized e = (
+  part,
+  record {
+    content = content;
+    front = begun;
+    fits = small;
+    whole = e ∙ append_assoc (before ++ part) size magic ∙ append_assoc before part (size ++ magic) ∙ ap (λ length_bytes. before ++ (part ++ (length_bytes ++ magic))) sized;
+  },
+  spelled,
+)

@@ -1,0 +1,16 @@
+use Rattle.std.proofs.Common.{rules, ◌≡◌, ◌∷◌, [], ◌<◌, ◌^◌, map, pos, string_bytes, subst}
+use Rattle.dk_pqmodel.specs.FooterBytes.{SpellsPath}
+use Rattle.dk_pqwrite.specs.Items.{Puts, PutsHeld, number_item}
+use Rattle.dk_pqwrite.proofs.FooterStructs.{meta_added}
+use Rattle.dk_pqwrite.proofs.chunk.write_metadata.Goals as goal
+
+pub returns : goal.returns
+returns c =
+    let chunk = c.args.chunk.now in
+    let small : chunk.physical < 2 ^ 63 = search rules in
+    let physical : c.from.result ≡ chunk.physical = search rules in
+    let names : c.deref.result.now ≡ chunk.path.items = search rules in
+    meta_added chunk c.requires.fit c.args.writer.now c.enter.new.self c.put_number.new.writer c.put_encodings.new.writer c.put_path.new.writer c.put_number-2.new.writer c.put_number-3.new.writer
+    c.put_number-4.new.writer c.put_number-5.new.writer c.put_number-6.new.writer c.put_place.new.writer c.end.new.self (map pos c.encodings.result.now) small c.requires.in_struct c.in_ok-enter.ensures
+    (subst (λ n. Puts (number_item 1 5 n ∷ []) c.enter.new.self c.put_number.new.writer) physical c.in_ok-put_number.ensures) c.in_ok-put_encodings.ensures (subst (λ names. PutsHeld 3 9 SpellsPath (map string_bytes names) c.put_encodings.new.writer c.put_path.new.writer) names c.in_ok-put_path.ensures)
+    c.in_ok-put_number-2.ensures c.in_ok-put_number-3.ensures c.in_ok-put_number-4.ensures c.in_ok-put_number-5.ensures c.in_ok-put_number-6.ensures c.in_ok-put_place.ensures c.in_ok-end.ensures.written

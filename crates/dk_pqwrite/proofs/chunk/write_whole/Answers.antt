@@ -1,0 +1,14 @@
+use Rattle.std.proofs.Common.{rules, ◌≡◌, ◌<◌, ◌^◌, pos}
+use Rattle.dk_grammar.specs.Spelling.{whole_bytes}
+use Rattle.dk_grammar.proofs.WrittenSpellings.{whole_written}
+use Rattle.dk_thrift.specs.Writing.{with_bytes}
+use Rattle.dk_pqwrite.proofs.Structs.{still_open}
+use Rattle.dk_pqwrite.proofs.ElementBytes.{far}
+use Rattle.dk_pqwrite.proofs.chunk.write_whole.Goals as goal
+
+pub returns : goal.returns
+returns c =
+    let number = c.args.number in
+    let small : number < 2 ^ 32 = search rules in
+    let written : c.whole.new.self ≡ with_bytes (whole_bytes (pos number)) c.args.writer.now = search rules in
+    record { more = whole_bytes (pos number); written = written; spelled = whole_written (pos number) (far number small); goes_on = still_open (whole_bytes (pos number)) c.args.writer.now c.whole.new.self written c.requires }

@@ -1,0 +1,14 @@
+use Rattle.std.proofs.Common.{rules, ◌≡◌, ◌<◌, ◌^◌, length, map, refl}
+use Rattle.dk_pqmodel.specs.FooterBytes.{SpellsChunk}
+use Rattle.dk_pqwrite.specs.Chunks.{chunk_said}
+use Rattle.dk_pqwrite.proofs.Structs.{list_held, length_of_map}
+use Rattle.dk_pqwrite.proofs.group.put_chunks.Goals as goal
+
+pub returns : goal.returns
+returns c =
+    let chunks = c.args.chunks.now in
+    let count = c.in_ok-count.count in
+    let small : count < 2 ^ 32 = search rules in
+    let many : count ≡ length chunks = search rules in
+    list_held 1 12 count SpellsChunk (map chunk_said chunks) c.args.writer.now c.field.new.self c.list.new.self c.write_chunks.new.writer c.in_ok-field.ensures.written c.in_ok-list.ensures.written
+    (length_of_map chunk_said chunks count many) small refl c.in_ok-write_chunks.ensures

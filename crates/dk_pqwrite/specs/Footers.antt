@@ -1,0 +1,38 @@
+-- The footer that is written, and the file that it ends.
+use Rattle.std.specs.Prelude.{◌≡◌, ℕ, Some, None, List, [], ◌∷◌, map, codes}
+use Rattle.dk_grammar.specs.Lists.{SpellsListOf}
+use Rattle.dk_thrift.specs.Writing.{Writing}
+use Rattle.dk_pqmodel.specs.Shape.{Fields}
+use Rattle.dk_pqmodel.specs.FileMeans.{columns_of}
+use Rattle.dk_pqmodel.specs.Footer.{Footer, Element, ElementFields, count_of, flat_of, each_of, element_of}
+use Rattle.dk_pqmodel.specs.FooterBytes.{SpellsElement, SpellsFooter, IsFramed}
+use Rattle.dk_pqwrite.specs.declared.chunk.Chunk.{Chunk}
+use Rattle.dk_pqwrite.specs.Chunks.{chunk_view, path_of_chunk}
+use Rattle.dk_pqwrite.specs.Elements.{fields_said, said_of}
+use Rattle.dk_pqwrite.specs.Items.{PutsHeld}
+use Rattle.dk_pqwrite.specs.OverItself.{own_plans, path_of}
+use Rattle.dk_pqwrite.specs.Written.{written_nodes}
+
+-- the root is a group of all fields
+abbrev pub root_of : Fields → Element
+root_of fs = record { name = codes "root"; repetition = None; physical = None; children = count_of (written_nodes fs) }
+
+abbrev pub root_said : Fields → ElementFields
+root_said fs = fields_said (codes "root") None None (Some (count_of (written_nodes fs)))
+
+-- The field of the schema's elements is added: the root and all that is below it.
+pub record PutsSchema (fs : Fields) (old new : Writing) : Type 0 where
+  pub held : PutsHeld 2 9 (SpellsListOf 12 SpellsElement) (root_said fs ∷ said_of (written_nodes fs)) old new
+  pub read : each_of element_of (root_said fs ∷ said_of (written_nodes fs)) ≡ Some (root_of fs ∷ flat_of (written_nodes fs))
+
+-- the chunks are those of the schema's columns, in order
+abbrev pub AreColumnsOf : Fields → List Chunk → Type 0
+AreColumnsOf fs chunks = map path_of_chunk chunks ≡ map path_of (columns_of (own_plans fs []) 0 0)
+
+-- the footer of a file with one row group
+abbrev pub footer_of : Fields → ℕ → List Chunk → Footer
+footer_of fs rows chunks = record { rows = rows; fields = written_nodes fs; groups = record { rows = rows; columns = map chunk_view chunks } ∷ [] }
+
+-- The bytes end with this footer, behind what stood there before.
+abbrev pub EndsFile : Footer → List ℕ → List ℕ → Type 0
+EndsFile footer before bytes = (part : List ℕ) × IsFramed bytes before part × SpellsFooter part footer
