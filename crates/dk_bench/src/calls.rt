@@ -1,6 +1,7 @@
 //! The words, and the calls that they name.
 
 use crate::conflicts::find_conflicts;
+use crate::rows::read_files;
 use dk_hybrid::{HybridFault, decode};
 use dk_model::LineFault;
 use dk_pages::next_page;
@@ -137,6 +138,7 @@ fn try_call(rt: &HostRuntime) -> Result<(), Trouble> {
         "runs" => decode_runs(rt.alloc(), &bytes, &wanted)?,
         "footer" => read_footers(rt.alloc(), &bytes, &wanted)?,
         "pages" => read_pages(&bytes, &wanted)?,
+        "rows" => read_files(rt.alloc(), &bytes, wanted.times)?,
         "conflicts" => find_conflicts(rt.alloc(), &bytes, wanted.count, wanted.times)?,
         _ => return Err(Trouble::Usage),
     };

@@ -4,6 +4,7 @@
 
 mod calls;
 mod conflicts;
+mod rows;
 
 use std::process::ExitCode;
 
