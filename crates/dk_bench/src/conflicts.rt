@@ -3,7 +3,7 @@
 use crate::calls::Trouble;
 use dk_actjson::read_commit;
 use dk_conflicts::{Claims, Reads};
-use dk_model::{Action, Commit, LineFault, Names, Text};
+use dk_model::{Action, Commit, Names, Text};
 use std::alloc::{AllocError, Global};
 
 /// How many actions each of the commits has that came in between.
@@ -16,9 +16,9 @@ struct Commits {
     winners: Vec<Commit>,
 }
 
-/// The first so many lines are one's own, and each thousand of the others is one that came in between.
-fn read_commits(alloc: Global, bytes: &[u8], count: usize) -> Result<Commits, LineFault> {
-    let mut lines = read_commit(alloc, bytes)?.into_vec().into_iter();
+/// The first so many actions are one's own, and each thousand of the others is one that came in between.
+fn split(alloc: Global, actions: Vec<Action>, count: usize) -> Result<Commits, AllocError> {
+    let mut lines = actions.into_iter();
     let mut own = Vec::new(alloc);
     for action in lines.by_ref().take(count) {
         own.push(action)?;
@@ -54,7 +54,8 @@ pub(crate) fn find_conflicts(
     count: usize,
     times: u32,
 ) -> Result<u64, Trouble> {
-    let commits = read_commits(alloc, bytes, count)?;
+    let actions = read_commit(alloc, bytes)?.into_vec();
+    let commits = split(alloc, actions, count)?;
     let reads = paths_read(alloc, &commits.own)?;
     let mut total = 0u64;
     for _ in 0..times {

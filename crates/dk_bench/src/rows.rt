@@ -26,7 +26,7 @@ fn optional(alloc: Global, name: &str, kind: NodeKind) -> Result<Node, AllocErro
 }
 
 fn text(alloc: Global) -> Result<Box<Node>, AllocError> {
-    Box::new(alloc, optional(alloc, "", NodeKind::Chars)?)
+    Ok(Box::new(alloc, optional(alloc, "", NodeKind::Chars)?)?)
 }
 
 fn kind_of(alloc: Global, holds: Holds) -> Result<NodeKind, AllocError> {
