@@ -8,4 +8,6 @@ mod header;
 mod levels;
 mod page;
 mod places;
+#[cfg(test)]
+mod tests;
 mod values;
