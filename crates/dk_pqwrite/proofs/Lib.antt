@@ -3,4 +3,5 @@ pub mod AddingPlain
 pub mod BuildingPages
 pub mod HeaderSpelling
 pub mod Packing
+pub mod PageSizes
 pub mod Uses
