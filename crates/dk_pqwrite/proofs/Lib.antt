@@ -11,6 +11,7 @@ pub mod NodeElements
 pub mod OwnPaths
 pub mod OwnTree
 pub mod Packing
+pub mod PageSizes
 pub mod Structs
 pub mod Uses
 pub mod WholeFooters

@@ -15,6 +15,8 @@ mod levels;
 mod nodes;
 mod page;
 mod places;
+#[cfg(test)]
+mod tests;
 mod values;
 
 pub use chunk::Chunk;
