@@ -11,3 +11,6 @@ mod nodes;
 
 pub use chunk::Chunk;
 pub use footer::{end_file, write_footer};
+
+#[cfg(test)]
+mod tests;
