@@ -19,7 +19,7 @@ use Rattle.dk_pqmodel.specs.declared.node.Node.{Node}
 use Rattle.dk_pqwrite.specs.declared.chunk.Chunk.{Chunk}
 use Rattle.dk_pqwrite.specs.Chunks.{IsFit, path_of_chunk, chunk_view, chunk_said, group_said}
 use Rattle.dk_pqwrite.specs.Elements.{fields_said, said_of, AddsNodes}
-use Rattle.dk_pqwrite.specs.Footers.{root_of, root_said, PutsSchema, AreColumnsOf, footer_of, EndsFile}
+use Rattle.dk_pqwrite.specs.Footers.{SpellsFields, file_said, root_of, root_said, PutsSchema, AreColumnsOf, footer_of, EndsFile}
 use Rattle.dk_pqwrite.specs.Items.{number_item, text_item, struct_bytes, Puts, Adds, PutsHeld}
 use Rattle.dk_pqwrite.specs.OverItself.{path_in}
 use Rattle.dk_pqwrite.specs.Written.{written_nodes}
@@ -93,12 +93,9 @@ file_spells = SpellsHeldOr (pos 2) 9 (SpellsListOf 12 SpellsElement) (SpellsHeld
 abbrev empty : Writing
 empty = record { bytes = []; structs = [] }
 
-abbrev pub file_of : List ElementFields → ℕ → List GroupFields → FileFields
-file_of elements rows groups = record { schema = Some elements; rows = Some (pos rows); groups = Some groups }
-
 module _ (elements : List ElementFields) (rows : ℕ) (groups : List GroupFields) (author : List ℕ) (begun a b d e f new : Writing) where
   pub file_added : rows < 2 ^ 63 → length author < 2 ^ 64 → begun ≡ with_struct empty → Puts (number_item 1 5 1 ∷ []) begun a → PutsHeld 2 9 (SpellsListOf 12 SpellsElement) elements a b
-      → Puts (number_item 3 6 rows ∷ []) b d → PutsHeld 4 9 (SpellsListOf 12 SpellsGroup) groups d e → Puts (text_item 6 author ∷ []) e f → new ≡ with_end f → SpellsMetaData new.bytes (file_of elements rows groups)
+      → Puts (number_item 3 6 rows ∷ []) b d → PutsHeld 4 9 (SpellsListOf 12 SpellsGroup) groups d e → Puts (text_item 6 author ∷ []) e f → new ≡ with_end f → SpellsMetaData new.bytes (record { schema = Some elements; rows = Some (pos rows); groups = Some groups })
   file_added few short started first second third fourth fifth ended =
       let i4 = item 4 9 fourth.bytes ∷ text_item 6 author ∷ [] in
       let i3 = number_item 3 6 rows ∷ i4 in
@@ -163,14 +160,13 @@ module _ (elements : List ElementFields) (rows : ℕ) (groups : List GroupFields
         refl,
       )
 
-pub footer_spelled : (fs : Fields) (rows : ℕ) (cs : List Chunk) (bytes : List ℕ) → IsSchema fs → All IsFit cs → AreColumnsOf fs cs → each_of element_of (root_said fs ∷ said_of (written_nodes fs)) ≡ Some (root_of fs ∷ flat_of (written_nodes fs))
-    → SpellsMetaData bytes (file_of (root_said fs ∷ said_of (written_nodes fs)) rows (group_said cs rows ∷ [])) → SpellsFooter bytes (footer_of fs rows cs)
-footer_spelled fs rows cs bytes is fit columns read spelled = (
-  file_of (root_said fs ∷ said_of (written_nodes fs)) rows (group_said cs rows ∷ []),
-  spelled,
+pub footer_spelled : (fs : Fields) (rows : ℕ) (cs : List Chunk) (bytes : List ℕ) → IsSchema fs → All IsFit cs → AreColumnsOf fs cs → SpellsFields fs rows cs bytes → SpellsFooter bytes (footer_of fs rows cs)
+footer_spelled fs rows cs bytes is fit columns file = (
+  file_said fs rows cs,
+  file.spelled,
   record {
     elements = root_of fs ∷ flat_of (written_nodes fs);
-    schema = read;
+    schema = file.read;
     tree = own_tree fs (root_of fs) is refl;
     groups = rw (group_again fs rows cs is fit columns) refl;
     rows = refl;
@@ -179,15 +175,9 @@ footer_spelled fs rows cs bytes is fit columns read spelled = (
 
 -- ---- the file
 
-pub file_ended : (footer : plain.Footer) (before part size bytes content : List ℕ) → SpellsFooter part footer → before ≡ magic ++ content → length part < 2 ^ 32 → size ≡ little 4 (length part)
-    → bytes ≡ ((before ++ part) ++ size) ++ magic → EndsFile footer before bytes
-file_ended footer before part size bytes content spelled begun small sized e = (
-  part,
-  record {
-    content = content;
-    front = begun;
-    fits = small;
-    whole = e ∙ append_assoc (before ++ part) size magic ∙ append_assoc before part (size ++ magic) ∙ ap (λ length_bytes. before ++ (part ++ (length_bytes ++ magic))) sized;
-  },
-  spelled,
-)
+pub file_ended : (footer : plain.Footer) (before part bytes content : List ℕ) → SpellsFooter part footer → before ≡ magic ++ content → length part < 2 ^ 32
+    → bytes ≡ before ++ (part ++ (little 4 (length part) ++ magic)) → EndsFile footer before bytes
+file_ended footer before part bytes content spelled begun small e = (part, record { content = content; front = begun; fits = small; whole = e }, spelled)
+
+pub four_parts : (a b c d whole : List ℕ) → whole ≡ ((a ++ b) ++ c) ++ d → whole ≡ a ++ (b ++ (c ++ d))
+four_parts a b c d whole e = e ∙ append_assoc (a ++ b) c d ∙ append_assoc a b (c ++ d)

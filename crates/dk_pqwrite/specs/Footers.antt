@@ -1,13 +1,13 @@
 -- The footer that is written, and the file that it ends.
-use Rattle.std.specs.Prelude.{◌≡◌, ℕ, Some, None, List, [], ◌∷◌, map, codes}
+use Rattle.std.specs.Prelude.{◌≡◌, ℕ, pos, Some, None, List, [], ◌∷◌, map, codes}
 use Rattle.dk_grammar.specs.Lists.{SpellsListOf}
 use Rattle.dk_thrift.specs.Writing.{Writing}
 use Rattle.dk_pqmodel.specs.Shape.{Fields}
 use Rattle.dk_pqmodel.specs.FileMeans.{columns_of}
-use Rattle.dk_pqmodel.specs.Footer.{Footer, Element, ElementFields, count_of, flat_of, each_of, element_of}
-use Rattle.dk_pqmodel.specs.FooterBytes.{SpellsElement, SpellsFooter, IsFramed}
+use Rattle.dk_pqmodel.specs.Footer.{Footer, Element, ElementFields, FileFields, count_of, flat_of, each_of, element_of}
+use Rattle.dk_pqmodel.specs.FooterBytes.{SpellsElement, SpellsMetaData, SpellsFooter, IsFramed}
 use Rattle.dk_pqwrite.specs.declared.chunk.Chunk.{Chunk}
-use Rattle.dk_pqwrite.specs.Chunks.{chunk_view, path_of_chunk}
+use Rattle.dk_pqwrite.specs.Chunks.{chunk_view, group_said, path_of_chunk}
 use Rattle.dk_pqwrite.specs.Elements.{fields_said, said_of}
 use Rattle.dk_pqwrite.specs.Items.{PutsHeld}
 use Rattle.dk_pqwrite.specs.OverItself.{own_plans, path_of}
@@ -23,6 +23,16 @@ root_said fs = fields_said (codes "root") None None (Some (count_of (written_nod
 -- The field of the schema's elements is added: the root and all that is below it.
 pub record PutsSchema (fs : Fields) (old new : Writing) : Type 0 where
   pub held : PutsHeld 2 9 (SpellsListOf 12 SpellsElement) (root_said fs ∷ said_of (written_nodes fs)) old new
+  pub read : each_of element_of (root_said fs ∷ said_of (written_nodes fs)) ≡ Some (root_of fs ∷ flat_of (written_nodes fs))
+
+-- what the fields of the whole say
+abbrev pub file_said : Fields → ℕ → List Chunk → FileFields
+file_said fs rows chunks =
+    record { schema = Some (root_said fs ∷ said_of (written_nodes fs)); rows = Some (pos rows); groups = Some (group_said chunks rows ∷ []) }
+
+-- The bytes are a FileMetaData that says these, and its elements are read.
+pub record SpellsFields (fs : Fields) (rows : ℕ) (chunks : List Chunk) (bytes : List ℕ) : Type 0 where
+  pub spelled : SpellsMetaData bytes (file_said fs rows chunks)
   pub read : each_of element_of (root_said fs ∷ said_of (written_nodes fs)) ≡ Some (root_of fs ∷ flat_of (written_nodes fs))
 
 -- the chunks are those of the schema's columns, in order

@@ -8,7 +8,7 @@ ghost use Rattle.dk_pqmodel.specs.NodeView.{fields_of};
 ghost use Rattle.dk_pqmodel.specs.SchemaView.{fields_in};
 ghost use Rattle.dk_pqwrite.specs.Chunks.{IsFit};
 ghost use Rattle.dk_pqwrite.specs.Elements.{fields_said, said_of};
-ghost use Rattle.dk_pqwrite.specs.Footers.{AreColumnsOf, EndsFile, PutsSchema, footer_of, root_said};
+ghost use Rattle.dk_pqwrite.specs.Footers.{AreColumnsOf, EndsFile, PutsSchema, SpellsFields, footer_of, root_said};
 ghost use Rattle.dk_pqwrite.specs.Written.{written_nodes};
 ghost use Rattle.dk_thrift.specs.Writing.{IsOpen};
 
@@ -51,11 +51,20 @@ pub fn end_file(
     ensures { OnOk result (EndsFile (footer_of (fields_in schema.now) rows chunks.now) bytes.old.items bytes.new.items) }
 {
     let footer = write_footer(alloc, schema, rows, size, chunks)?;
+    close(bytes, &footer)?;
+    Ok(())
+}
+
+/// The footer behind the pages, its length and the magic.
+pub(crate) fn close(bytes: &mut Vec<u8>, footer: &[u8]) -> Result<(), AllocError>
+    ensures small { OnOk result (length footer.now < 2 ^ 32) }
+    ensures closed { OnOk result (bytes.new.items ≡ bytes.old.items ++ (footer.now ++ (little 4 (length footer.now) ++ magic))) }
+{
     let length = footer.len();
     if length >= 1 << 32 {
         return Err(AllocError);
     }
-    bytes.extend_from_slice(&footer)?;
+    bytes.extend_from_slice(footer)?;
     bytes.extend_from_slice(&number(length as u32))?;
     bytes.extend_from_slice(MAGIC)?;
     Ok(())
@@ -85,9 +94,26 @@ pub fn write_footer(
     requires columns { AreColumnsOf (fields_in schema.now) chunks.now }
     ensures { IfOk result (λ v. SpellsFooter v.items (footer_of (fields_in schema.now) rows chunks.now)) }
 {
+    let footer = write_fields(alloc, &schema.nodes, rows, size, chunks)?;
+    Ok(footer)
+}
+
+/// The fields of a FileMetaData.
+pub(crate) fn write_fields(
+    alloc: Global,
+    nodes: &[Node],
+    rows: u64,
+    size: u64,
+    chunks: &[Chunk],
+) -> Result<Vec<u8>, AllocError>
+    requires rows { rows < 2 ^ 63 }
+    requires size { size < 2 ^ 63 }
+    requires fit { All IsFit chunks.now }
+    ensures { IfOk result (λ v. SpellsFields (fields_of nodes.now) rows chunks.now v.items) }
+{
     let mut writer = Writer::new(alloc);
     put_number(&mut writer, 1, I32, VERSION)?;
-    put_schema(&mut writer, &schema.nodes)?;
+    put_schema(&mut writer, nodes)?;
     put_number(&mut writer, 3, I64, rows)?;
     put_groups(&mut writer, rows, size, chunks)?;
     put_text(&mut writer, 6, CREATED_BY)?;

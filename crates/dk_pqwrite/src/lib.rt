@@ -8,15 +8,17 @@ mod element;
 mod fields;
 mod flags;
 mod footer;
+#[cfg(test)]
+mod footer_tests;
 mod group;
 mod header;
 pub mod laws;
 mod levels;
 mod nodes;
 mod page;
-mod places;
 #[cfg(test)]
-mod tests;
+mod page_tests;
+mod places;
 mod values;
 
 pub use chunk::Chunk;
