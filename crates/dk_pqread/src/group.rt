@@ -1,6 +1,6 @@
 //! The columns of a row group.
 
-ghost use Rattle.std.specs.Prelude.{◌≡◌, [], IsTrue, map};
+ghost use Rattle.std.specs.Prelude.{[], IsTrue, map};
 ghost use Rattle.dk_pqmeta.specs.View.{group_view};
 ghost use Rattle.dk_pqmodel.specs.ColumnView.{columns_of};
 ghost use Rattle.dk_pqmodel.specs.FileMeans.{HasColumns};

@@ -1,6 +1,6 @@
 //! Values in the encoding PLAIN (Apache Parquet, "Plain").
 
-ghost use Rattle.std.specs.Prelude.{◌≡◌, ◌≤◌, ◌++◌, OnOk, map, take};
+ghost use Rattle.std.specs.Prelude.{◌≡◌, ◌++◌, OnOk, map, take};
 ghost use Rattle.dk_grammar.specs.Digits.{digits_of};
 ghost use Rattle.dk_pqread.specs.Gives.{Gives};
 ghost use Rattle.dk_pqmodel.specs.ColumnView.{value_of};

@@ -1,7 +1,7 @@
 -- Rows by a schema without its names are those of the schema: they have its form, the same triples, and are turned into themselves.
 use Rattle.std.proofs.Common.{◌≡◌, ℕ, ◌+◌, Bool, [], ◌∷◌, ◌++◌, codes, Some, None, option_map, replicate, refl, sym, ap, ap₂, subst, ◌∙◌, arith}
 use Rattle.std.proofs.lemmas.Bool.{false≢true}
-use Rattle.dk_pqmodel.specs.Shape.{Leaf, Shape, leaf, dictionary, Field, field, Fields, no_fields, one_field, fields_at, element_at, shape_in, width_at, width_in, width_of, entry, key, root, name_in}
+use Rattle.dk_pqmodel.specs.Shape.{Leaf, Shape, leaf, dictionary, Field, field, Fields, no_fields, one_field, fields_at, element_at, shape_in, width_at, width_in, width_of, entry, root, name_in}
 use Rattle.dk_pqmodel.specs.Shape as shape
 use Rattle.dk_pqmodel.specs.Datum.{Value, Datum, null, atom, group, list, Cells, no_cells, one_cell, one_entry}
 use Rattle.dk_pqmodel.specs.Fits.{CellBy, EachBy, AllBy, AreRowsOf, AreTriplesOf, is_of_kind}

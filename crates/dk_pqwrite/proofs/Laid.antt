@@ -8,7 +8,7 @@ use Rattle.dk_pqmodel.specs.Schema.{has_fields, is_named, are_distinct, is_sound
 use Rattle.dk_pqmodel.specs.FileSchema.{FileNode, file_node, FileNodes, no_nodes, one_node, node_name, named_in}
 use Rattle.dk_pqmodel.specs.FilePages.{physical_type}
 use Rattle.dk_pqmodel.specs.FileMeans.{one_if}
-use Rattle.dk_pqmodel.specs.Laid.{Path, Plan, missing, Plans, is_missing, all_missing, members, members_of, elements, elements_of, entries, field_at, field_then, file_entry, laid_at, laid_in, laid_named, laid_each, laid, cut_of, cuts_of, misfit_at, misfit_in, misfit_each, misfit_named, first_misfit, or_else}
+use Rattle.dk_pqmodel.specs.Laid.{Path, Plan, Plans, is_missing, all_missing, members, members_of, elements, elements_of, entries, field_at, field_then, file_entry, laid_at, laid_in, laid_named, laid_each, laid, cut_of, cuts_of, misfit_at, misfit_in, misfit_each, misfit_named, first_misfit, or_else}
 use Rattle.dk_pqmodel.specs.Laid as laying
 use Rattle.dk_pqwrite.specs.Written.{written_as, written_in, written_nodes, nodes_at, physical_at}
 use Rattle.dk_pqwrite.specs.OverItself.{bare_at, bare_in, bare, own_plan_at, own_plan_in, own_plan_named, own_plans}

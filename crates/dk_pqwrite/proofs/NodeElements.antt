@@ -3,7 +3,7 @@ use Rattle.std.proofs.Common.{◌≡◌, ◌<◌, ◌≤◌, ◌^◌, ℕ, suc, 
 use Rattle.std.proofs.lemmas.List.{length-append, drop_all, append-nil}
 use Rattle.std.proofs.lemmas.Bool.{lt-ltb}
 use Rattle.dk_thrift.specs.Writing.{Writing, IsOpen}
-use Rattle.dk_pqmodel.specs.Shape.{Leaf, flag, int32, int64, chars, Shape, leaf, dictionary, Field, field, Fields, no_fields, one_field, name_in, shape_in, is_nullable}
+use Rattle.dk_pqmodel.specs.Shape.{flag, int32, int64, chars, Shape, leaf, dictionary, Field, field, shape_in, is_nullable}
 use Rattle.dk_pqmodel.specs.Shape as shape
 use Rattle.dk_pqmodel.specs.NodeView.{fields_of, field_of, shape_of}
 use Rattle.dk_pqmodel.specs.FileSchema.{FileNode, file_node, FileNodes, no_nodes, one_node}
@@ -11,7 +11,7 @@ use Rattle.dk_pqmodel.specs.FileMeans.{one_if}
 use Rattle.dk_pqmodel.specs.Footer.{Element, ElementFields, count_of, each_of, element_of, flat, flat_of}
 use Rattle.dk_pqmodel.specs.FooterBytes.{SpellsElement}
 use Rattle.dk_pqmodel.specs.declared.node.Node.{Node}
-use Rattle.dk_pqmodel.specs.declared.node.NodeKind.{NodeKind, Flag, Int32, Int64, Chars, Map, the_lemmas}
+use Rattle.dk_pqmodel.specs.declared.node.NodeKind.{NodeKind, Map, the_lemmas}
 use Rattle.dk_pqmodel.specs.declared.node.NodeKind as node
 use Rattle.dk_pqmodel.proofs.NodeViews.{field_of-is, fields_of-drop, shape_of-List, shape_of-Map}
 use Rattle.dk_pqwrite.specs.Written.{written_as, written_in, written_nodes, nodes_at, physical_at}

@@ -13,7 +13,7 @@ use Rattle.dk_pqmodel.specs.Shape.{Fields}
 use Rattle.dk_pqmodel.specs.Schema.{IsSchema}
 use Rattle.dk_pqmodel.specs.NodeView.{fields_of}
 use Rattle.dk_pqmodel.specs.Footer as plain
-use Rattle.dk_pqmodel.specs.Footer.{FileFields, ElementFields, GroupFields, ChunkFields, Element, file_fields, count_of, flat_of, each_of, element_of, chunk_of, group_of, if_distinct, place_of, MeansFooter, ◌>=◌}
+use Rattle.dk_pqmodel.specs.Footer.{ElementFields, GroupFields, count_of, flat_of, each_of, element_of, chunk_of, group_of, place_of, ◌>=◌}
 use Rattle.dk_pqmodel.specs.FooterBytes.{SpellsElement, SpellsGroup, SpellsMetaData, SpellsFooter, magic}
 use Rattle.dk_pqmodel.specs.declared.node.Node.{Node}
 use Rattle.dk_pqwrite.specs.declared.chunk.Chunk.{Chunk}

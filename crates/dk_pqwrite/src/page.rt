@@ -3,13 +3,13 @@
 ghost use Rattle.std.specs.Prelude.{◌≡◌, ◌+◌, ◌*◌, ◌<◌, ◌≤◌, ◌^◌, All, IfOk, None, OnOk, Some, [], length, map, pos};
 ghost use Rattle.dk_pqmodel.specs.ColumnView.{entry_of};
 ghost use Rattle.dk_pqmodel.specs.Datum.{chars};
-ghost use Rattle.dk_pqmodel.specs.FilePages.{AreFull, ByIndices, IsDataV1, IsDictionary, IsPage};
+ghost use Rattle.dk_pqmodel.specs.FilePages.{AreFull, IsDataV1, IsDictionary, IsPage};
 ghost use Rattle.dk_pqmodel.specs.Laid.{Path};
 ghost use Rattle.dk_pqmodel.specs.Shape.{chars as shape_chars};
 ghost use Rattle.dk_pqwrite.specs.Adding.{Adds};
 ghost use Rattle.dk_pqwrite.specs.DataPages.{HoldBoth};
 ghost use Rattle.dk_pqwrite.specs.FirstUses.{AreTheirs, texts_in};
-ghost use Rattle.dk_pqwrite.specs.HeaderBytes.{data_numbers, dictionary_numbers, page_parts};
+ghost use Rattle.dk_pqwrite.specs.HeaderBytes.{data_numbers, page_parts};
 ghost use Rattle.dk_pqwrite.specs.PlainValues.{ArePlain, FitsEntry, column_weight, plain_size};
 ghost use Rattle.dk_pqwrite.specs.WrittenColumn.{column_at, leaf_of, values_in};
 

@@ -1,6 +1,6 @@
 //! Texts by their places in a dictionary.
 
-ghost use Rattle.std.specs.Prelude.{◌≡◌, ◌+◌, ◌*◌, ◌<◌, ◌≤◌, ◌^◌, All, List, ℕ, OnOk, length, map};
+ghost use Rattle.std.specs.Prelude.{◌+◌, ◌*◌, ◌<◌, ◌≤◌, ◌^◌, All, List, ℕ, OnOk, length, map};
 ghost use Rattle.dk_pqmodel.specs.Datum.{chars};
 ghost use Rattle.dk_pqmodel.specs.FilePages.{ByIndices};
 ghost use Rattle.dk_pqwrite.specs.Adding.{Adds};
