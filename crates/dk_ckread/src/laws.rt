@@ -16,7 +16,7 @@ pub fn checkpoints_mean_one()
 /// Whatever a version of a lawful log is read from, a complete checkpoint or none and then commits and compacted files, leads to
 /// the state of the history at the version, but for expired tombstones (Delta Lake's PROTOCOL.md, "Action Reconciliation").
 pub fn segments_agree()
-    ensures agrees { ReadAgrees }
+    ensures { ReadAgrees }
 {}
 
 /// What is written of a checkpoint in one object, with its sidecars, may be made, by the state that was opened at its published

@@ -3,5 +3,5 @@ use Rattle.dk_lawful.proofs.SegmentsAgree.{read_agrees}
 use Rattle.dk_pqread.proofs.OneList.{one_list}
 use Rattle.dk_ckread.proofs.laws.segments_agree.Goals as goal
 
-pub returns-clause-agrees : goal.returns-clause-agrees
-returns-clause-agrees c = read_agrees one_list
+pub returns : goal.returns
+returns c = read_agrees one_list
