@@ -1,5 +1,6 @@
 pub mod AddingLevels
 pub mod AddingPlain
+pub mod BareColumns
 pub mod BareRows
 pub mod BuildingPages
 pub mod ElementBytes
@@ -12,6 +13,9 @@ pub mod OwnPaths
 pub mod OwnTree
 pub mod Packing
 pub mod PageSizes
+pub mod SchemaSizes
+pub mod Shredded
 pub mod Structs
+pub mod Suiting
 pub mod Uses
 pub mod WholeFooters

@@ -4,10 +4,13 @@ pub mod Chunks
 pub mod DataPages
 pub mod Elements
 pub mod FirstUses
+pub mod FooterSizes
 pub mod Footers
 pub mod HeaderBytes
 pub mod Items
 pub mod OverItself
 pub mod PlainValues
+pub mod Shredded
+pub mod Writable
 pub mod Written
 pub mod WrittenColumn
