@@ -4,6 +4,7 @@ pub mod Chunks
 pub mod DataPages
 pub mod Elements
 pub mod FirstUses
+pub mod FooterSizes
 pub mod Footers
 pub mod HeaderBytes
 pub mod Items
