@@ -1,6 +1,7 @@
 -- The bytes of an element spell it.
-use Rattle.std.proofs.Common.{◌≡◌, ◌<◌, ◌^◌, ℕ, ℤ, pos, true, false, Option, Some, None, List, [], ◌∷◌, ◌++◌, length, refl, arith, FitsSigned, w64}
+use Rattle.std.proofs.Common.{◌≡◌, ◌<◌, ◌≤◌, ◌+◌, ◌^◌, ℕ, ℤ, pos, true, false, Option, Some, None, List, [], ◌∷◌, ◌++◌, length, refl, arith, FitsSigned, w64}
 use Rattle.std.specs.Str.{is_utf8}
+use Rattle.dk_grammar.specs.Spelling.{binary_bytes, field_bytes}
 use Rattle.dk_grammar.specs.Thrift.{is_id}
 use Rattle.dk_grammar.specs.Structs.{Listed, SpellsNumberField}
 use Rattle.dk_grammar.specs.Lists.{Either, held, other, is_held, SpellsHeldOr}
@@ -8,9 +9,11 @@ use Rattle.dk_grammar.proofs.WrittenSpellings.{whole_written, binary_written}
 use Rattle.dk_pqmodel.specs.FooterBytes.{SpellsElement, SpellsName}
 use Rattle.dk_pqmodel.specs.Footer.{element_fields}
 use Rattle.dk_thrift.specs.Writing.{Writing, with_bytes, with_struct, with_end}
-use Rattle.dk_pqwrite.specs.Items.{Item, IsSmall, text_item, optional_items, struct_bytes, with_items}
+use Rattle.dk_pqwrite.specs.FooterSizes.{element_size, name_size}
+use Rattle.dk_pqwrite.specs.Items.{Item, IsSmall, number_item, text_item, optional_items, items_bytes, struct_bytes, with_items}
 use Rattle.dk_pqwrite.specs.Elements.{element_items, fields_said}
-use Rattle.dk_pqwrite.proofs.Structs.{Says, struct_spelled, items_then, struct_ended}
+use Rattle.dk_pqwrite.proofs.NumberSizes.{whole_32, name_short}
+use Rattle.dk_pqwrite.proofs.Structs.{Says, struct_spelled, at_most, item_short, items_then, struct_ended}
 
 pub far : (n : ℕ) → n < 2 ^ 32 → FitsSigned w64 (pos n)
 far n h = record { sfits = below n h }
@@ -94,3 +97,43 @@ element_written name repetition physical children converted old inner a b d e f 
     let last_three = items_then (text_item 4 name ∷ []) two b d f third last_two in
     let last_four = items_then (optional_items 3 5 repetition) three a b f second last_three in
     struct_ended (element_items name repetition physical children converted) old inner f new begun (items_then (optional_items 1 5 physical) four inner a f first last_four) ended
+
+-- ---- how many bytes there are
+
+optional_short : (last : ℤ) (id : ℕ) (n : Option ℕ) (items : List Item) (most : ℕ) → IsSmall n → length (field_bytes last (pos id) 5) ≡ 1 → length (items_bytes last items) ≤ most
+    → length (items_bytes (pos id) items) ≤ most → length (items_bytes last (optional_items id 5 n ++ items)) ≤ 6 + most
+optional_short last id None items most h one without behind = omega (arith, without)
+optional_short last id (Some n) items most h one without behind = item_short last (number_item id 5 n) items 5 most one (whole_32 n h) behind
+
+last_short : (last : ℤ) (id : ℕ) (n : Option ℕ) → IsSmall n → length (field_bytes last (pos id) 5) ≡ 1 → length (items_bytes last (optional_items id 5 n)) ≤ 7
+last_short last id None h one = omega arith
+last_short last id (Some n) h one = item_short last (number_item id 5 n) [] 5 1 one (whole_32 n h) (omega arith)
+
+module _ (name : List ℕ) (repetition physical children converted : Option ℕ) (own : ℕ) (r : IsSmall repetition) (p : IsSmall physical) (c : IsSmall children) (v : IsSmall converted) where
+  abbrev behind_name : List Item
+  behind_name = optional_items 5 5 children ++ optional_items 6 5 converted
+
+  behind_name_short : length (items_bytes (pos 4) behind_name) ≤ 13
+  behind_name_short = optional_short (pos 4) 5 children (optional_items 6 5 converted) 7 c refl (last_short (pos 4) 6 converted v refl) (last_short (pos 5) 6 converted v refl)
+
+  abbrev from_name : List Item
+  from_name = text_item 4 name ∷ behind_name
+
+  name_within : (last : ℤ) → length (binary_bytes name) ≤ own → length (field_bytes last (pos 4) 8) ≡ 1 → length (items_bytes last from_name) ≤ 14 + own
+  name_within last few one = at_most (items_bytes last from_name) (1 + own + 13) (14 + own) (item_short last (text_item 4 name) behind_name own 13 one few behind_name_short) (omega arith)
+
+  abbrev from_repetition : List Item
+  from_repetition = optional_items 3 5 repetition ++ from_name
+
+  repetition_within : (last : ℤ) → length (binary_bytes name) ≤ own → length (field_bytes last (pos 3) 5) ≡ 1 → length (field_bytes last (pos 4) 8) ≡ 1
+      → length (items_bytes last from_repetition) ≤ 6 + (14 + own)
+  repetition_within last few one then = optional_short last 3 repetition from_name (14 + own) r one (name_within last few then) (name_within (pos 3) few refl)
+
+  element_within : length (binary_bytes name) ≤ own → length (struct_bytes (element_items name repetition physical children converted)) ≤ 26 + own
+  element_within few =
+      at_most (struct_bytes (element_items name repetition physical children converted)) (6 + (6 + (14 + own))) (26 + own)
+      (optional_short (pos 0) 1 physical from_repetition (6 + (14 + own)) p refl (repetition_within (pos 0) few refl refl) (repetition_within (pos 1) few refl refl)) (omega arith)
+
+pub element_short : (name : List ℕ) (repetition physical children converted : Option ℕ) → length name < 2 ^ 64 → IsSmall repetition → IsSmall physical → IsSmall children → IsSmall converted
+    → length (struct_bytes (element_items name repetition physical children converted)) ≤ element_size (fields_said name repetition physical children)
+element_short name repetition physical children converted short r p c v = element_within name repetition physical children converted (name_size name) r p c v (name_short name short)

@@ -1,5 +1,5 @@
 -- The structs of a footer, as they are written.
-use Rattle.std.proofs.Common.{◌≡◌, ◌<◌, ◌^◌, ℕ, ℤ, pos, Option, Some, None, option_map, IfSome, List, [], ◌∷◌, length, refl, lit<, FitsSigned, w64}
+use Rattle.std.proofs.Common.{◌≡◌, ◌<◌, ◌≤◌, ◌+◌, ◌^◌, ℕ, Bool, true, false, ℤ, pos, Option, Some, None, option_map, IfSome, List, [], ◌∷◌, length, refl, lit<, arith, FitsSigned, w64}
 use Rattle.dk_grammar.specs.Thrift.{head}
 use Rattle.dk_grammar.specs.Grammar.{SpellsWhole}
 use Rattle.dk_grammar.specs.Nested.{Repeats, SpellsElement, SpellsValue}
@@ -12,9 +12,10 @@ use Rattle.dk_pqmodel.specs.Laid.{Path}
 use Rattle.dk_pqmodel.specs.Footer.{meta_fields, MetaFields, ChunkFields}
 use Rattle.dk_pqmodel.specs.FooterBytes.{SpellsPath, SpellsMeta, SpellsChunk, SpellsGroup}
 use Rattle.dk_pqwrite.specs.declared.chunk.Chunk.{Chunk}
-use Rattle.dk_pqwrite.specs.Chunks.{IsFit, path_of_chunk, meta_said}
-use Rattle.dk_pqwrite.specs.Items.{Item, number_item, optional_items, struct_bytes, with_items, Puts, Adds, PutsHeld}
-use Rattle.dk_pqwrite.proofs.Structs.{Says, struct_spelled, items_then, struct_ended, still_open}
+use Rattle.dk_pqwrite.specs.Chunks.{IsFit, path_of_chunk, meta_said, encodings_of}
+use Rattle.dk_pqwrite.specs.Items.{Item, number_item, optional_items, items_bytes, struct_bytes, with_items, Puts, Writes, PutsHeld}
+use Rattle.dk_pqwrite.proofs.NumberSizes.{whole_8, whole_32, whole_64}
+use Rattle.dk_pqwrite.proofs.Structs.{Says, struct_spelled, at_most, item_short, items_then, struct_ended, still_open}
 
 pub fits : (n : ℕ) → n < 2 ^ 63 → FitsSigned w64 (pos n)
 fits n h = record { sfits = h }
@@ -172,14 +173,45 @@ meta_back : (physical : ℕ) (path : Path) (values size first : ℕ) (place : Op
 meta_back physical path values size first None = refl
 meta_back physical path values size first (Some n) = refl
 
+-- ---- how many bytes it has
+
+pub few_encodings : (b : Bool) (encodings : List ℕ) → encodings ≡ encodings_of b → length encodings ≤ 3
+few_encodings true encodings e = rw e (omega arith)
+few_encodings false encodings e = rw e (omega arith)
+
+place_short : (place : Option ℕ) → IsPlace place → length (items_bytes (pos 9) (optional_items 11 6 place)) ≤ 12
+place_short None h = omega arith
+place_short (Some n) h = item_short (pos 9) (number_item 11 6 n) [] 10 1 refl (whole_64 n h.1) (omega arith)
+
+meta_short : (physical : ℕ) (encodings path : List ℕ) (values size first : ℕ) (place : Option ℕ) (few short : ℕ) → physical < 2 ^ 31 → length encodings ≤ few → length path ≤ short
+    → values < 2 ^ 63 → size < 2 ^ 63 → first < 2 ^ 63 → IsPlace place → length (struct_bytes (meta_items physical encodings path values size first place)) ≤ 70 + few + short
+meta_short physical encodings path values size first place few short p e h v s f d =
+    let i9 = optional_items 11 6 place in
+    let i8 = number_item 9 6 first ∷ i9 in
+    let i7 = number_item 7 6 size ∷ i8 in
+    let i6 = number_item 6 6 size ∷ i7 in
+    let i5 = number_item 5 6 values ∷ i6 in
+    let i4 = number_item 4 5 0 ∷ i5 in
+    let i3 = item 3 9 path ∷ i4 in
+    let i2 = item 2 9 encodings ∷ i3 in
+    let s8 : length (items_bytes (pos 7) i8) ≤ 23 = item_short (pos 7) (number_item 9 6 first) i9 10 12 refl (whole_64 first f) (place_short place d) in
+    let s7 : length (items_bytes (pos 6) i7) ≤ 34 = item_short (pos 6) (number_item 7 6 size) i8 10 23 refl (whole_64 size s) s8 in
+    let s6 : length (items_bytes (pos 5) i6) ≤ 45 = item_short (pos 5) (number_item 6 6 size) i7 10 34 refl (whole_64 size s) s7 in
+    let s5 : length (items_bytes (pos 4) i5) ≤ 56 = item_short (pos 4) (number_item 5 6 values) i6 10 45 refl (whole_64 values v) s6 in
+    let s4 : length (items_bytes (pos 3) i4) ≤ 62 = item_short (pos 3) (number_item 4 5 0) i5 5 56 refl (whole_32 0 (lit< tt)) s5 in
+    let s3 : length (items_bytes (pos 2) i3) ≤ 1 + short + 62 = item_short (pos 2) (item 3 9 path) i4 short 62 refl h s4 in
+    let s2 : length (items_bytes (pos 1) i2) ≤ 1 + few + (1 + short + 62) = item_short (pos 1) (item 2 9 encodings) i3 few (1 + short + 62) refl e s3 in
+    let s1 = item_short (pos 0) (number_item 1 5 physical) i2 5 (1 + few + (1 + short + 62)) refl (whole_32 physical (omega (arith, p))) s2 in
+    at_most (struct_bytes (number_item 1 5 physical ∷ i2)) (1 + 5 + (1 + few + (1 + short + 62))) (70 + few + short) s1 (omega arith)
+
 abbrev pub With : List Item → Writing → Writing → Type 0
 With items old new = new ≡ with_items items old
 
-module _ (c : Chunk) (fit : IsFit c) (old inner a : Writing) (d e f g h i j k new : Writing) (encodings : List ℤ) where
-  pub meta_added : c.physical < 2 ^ 63 → IsOpen old → inner ≡ with_struct old → Puts (number_item 1 5 c.physical ∷ []) inner a → PutsHeld 2 9 (SpellsListOf 5 SpellsWhole) encodings a d
-      → PutsHeld 3 9 SpellsPath (path_of_chunk c) d e → Puts (number_item 4 5 0 ∷ []) e f → Puts (number_item 5 6 c.values ∷ []) f g → Puts (number_item 6 6 c.size ∷ []) g h
-      → Puts (number_item 7 6 c.size ∷ []) h i → Puts (number_item 9 6 c.first_page ∷ []) i j → Puts (optional_items 11 6 c.dictionary_page) j k → new ≡ with_end k → Adds SpellsMeta (meta_said c) old new
-  meta_added small stands begun first second third fourth fifth sixth seventh eighth ninth ended =
+module _ (c : Chunk) (fit : IsFit c) (old inner a : Writing) (d e f g h i j k new : Writing) (encodings : List ℤ) (few short most : ℕ) where
+  pub meta_added : 70 + few + short ≤ most → c.physical < 2 ^ 63 → IsOpen old → inner ≡ with_struct old → Puts (number_item 1 5 c.physical ∷ []) inner a
+      → PutsHeld 2 9 (SpellsListOf 5 SpellsWhole) encodings few a d → PutsHeld 3 9 SpellsPath (path_of_chunk c) short d e → Puts (number_item 4 5 0 ∷ []) e f → Puts (number_item 5 6 c.values ∷ []) f g → Puts (number_item 6 6 c.size ∷ []) g h
+      → Puts (number_item 7 6 c.size ∷ []) h i → Puts (number_item 9 6 c.first_page ∷ []) i j → Puts (optional_items 11 6 c.dictionary_page) j k → new ≡ with_end k → Writes SpellsMeta (meta_said c) most old new
+  meta_added room small stands begun first second third fourth fifth sixth seventh eighth ninth ended =
       let i9 = optional_items 11 6 c.dictionary_page in
       let i8 = number_item 9 6 c.first_page ∷ i9 in
       let i7 = number_item 7 6 c.size ∷ i8 in
@@ -208,6 +240,8 @@ module _ (c : Chunk) (fit : IsFit c) (old inner a : Writing) (d e f g h i j k ne
               (meta_says c.physical second.bytes third.bytes (path_of_chunk c) c.values c.size c.first_page c.dictionary_page small (wholes_passed encodings second.bytes second.spelled) third.spelled fit.values fit.size fit.first fit.dictionary),
           meta_back c.physical (path_of_chunk c) c.values c.size c.first_page c.dictionary_page,
         );
+        size = at_most (struct_bytes all) (70 + few + short) most
+            (meta_short c.physical second.bytes third.bytes c.values c.size c.first_page c.dictionary_page few short fit.physical second.size third.size fit.values fit.size fit.first fit.dictionary) room;
         goes_on = still_open (struct_bytes all) old new written stands;
       }
 
@@ -216,9 +250,14 @@ module _ (c : Chunk) (fit : IsFit c) (old inner a : Writing) (d e f g h i j k ne
 abbrev chunk_spells : ℤ → ℕ → List ℕ → Option (Either MetaFields ℤ) → Type 0
 chunk_spells = SpellsHeldOr (pos 3) 12 SpellsMeta SpellsNumberField
 
-pub chunk_added : (m : MetaFields) (old inner a b new : Writing) → IsOpen old → inner ≡ with_struct old → Puts (number_item 2 6 0 ∷ []) inner a → PutsHeld 3 12 SpellsMeta m a b → new ≡ with_end b
-    → Adds SpellsChunk (record { metadata = Some m }) old new
-chunk_added m old inner a b new stands begun first second ended =
+chunk_short : (bytes : List ℕ) (few : ℕ) → length bytes ≤ few → length (struct_bytes (number_item 2 6 0 ∷ item 3 12 bytes ∷ [])) ≤ 5 + few
+chunk_short bytes few h =
+    let s1 = item_short (pos 0) (number_item 2 6 0) (item 3 12 bytes ∷ []) 2 (1 + few + 1) refl (whole_8 0 (lit< tt)) (item_short (pos 2) (item 3 12 bytes) [] few 1 refl h (omega arith)) in
+    at_most (struct_bytes (number_item 2 6 0 ∷ item 3 12 bytes ∷ [])) (1 + 2 + (1 + few + 1)) (5 + few) s1 (omega arith)
+
+pub chunk_added : (m : MetaFields) (few most : ℕ) (old inner a b new : Writing) → 5 + few ≤ most → IsOpen old → inner ≡ with_struct old → Puts (number_item 2 6 0 ∷ []) inner a
+    → PutsHeld 3 12 SpellsMeta m few a b → new ≡ with_end b → Writes SpellsChunk (record { metadata = Some m }) most old new
+chunk_added m few most old inner a b new room stands begun first second ended =
     let all = number_item 2 6 0 ∷ item 3 12 second.bytes ∷ [] in
     let whole : With all inner b = items_then (number_item 2 6 0 ∷ []) (item 3 12 second.bytes ∷ []) inner a b first.0 second.written in
     let written : new ≡ with_bytes (struct_bytes all) old = struct_ended all old inner b new begun whole ended in
@@ -231,6 +270,7 @@ chunk_added m old inner a b new stands begun first second ended =
         struct_spelled chunk_spells all parts (Some (other (pos 0)), (_, (refl, refl, refl, (refl, (refl, whole_written (pos 0) (fits 0 (lit< tt)))), (Some (held m), (_, (refl, refl, refl, (refl, second.spelled), refl)))))),
         refl,
       );
+      size = at_most (struct_bytes all) (5 + few) most (chunk_short second.bytes few second.size) room;
       goes_on = still_open (struct_bytes all) old new written stands;
     }
 
@@ -239,9 +279,18 @@ chunk_added m old inner a b new stands begun first second ended =
 abbrev group_spells : ℤ → ℕ → List ℕ → Option (Either (List ChunkFields) ℤ) → Type 0
 group_spells = SpellsHeldOr (pos 1) 9 (SpellsListOf 12 SpellsChunk) SpellsNumberField
 
-pub group_added : (chunks : List ChunkFields) (size rows : ℕ) (old inner a b d new : Writing) → size < 2 ^ 63 → rows < 2 ^ 63 → IsOpen old → inner ≡ with_struct old → PutsHeld 1 9 (SpellsListOf 12 SpellsChunk) chunks inner a
-    → Puts (number_item 2 6 size ∷ []) a b → Puts (number_item 3 6 rows ∷ []) b d → new ≡ with_end d → Adds SpellsGroup (record { columns = Some chunks; rows = Some (pos rows) }) old new
-group_added chunks size rows old inner a b d new small few stands begun first second third ended =
+group_short : (bytes : List ℕ) (size rows most : ℕ) → size < 2 ^ 63 → rows < 2 ^ 63 → length bytes ≤ most
+    → length (struct_bytes (item 1 9 bytes ∷ number_item 2 6 size ∷ number_item 3 6 rows ∷ [])) ≤ 24 + most
+group_short bytes size rows most small few h =
+    let i2 = number_item 2 6 size ∷ number_item 3 6 rows ∷ [] in
+    let s3 : length (items_bytes (pos 2) (number_item 3 6 rows ∷ [])) ≤ 12 = item_short (pos 2) (number_item 3 6 rows) [] 10 1 refl (whole_64 rows few) (omega arith) in
+    let s2 : length (items_bytes (pos 1) i2) ≤ 23 = item_short (pos 1) (number_item 2 6 size) (number_item 3 6 rows ∷ []) 10 12 refl (whole_64 size small) s3 in
+    at_most (struct_bytes (item 1 9 bytes ∷ i2)) (1 + most + 23) (24 + most) (item_short (pos 0) (item 1 9 bytes) i2 most 23 refl h s2) (omega arith)
+
+pub group_added : (chunks : List ChunkFields) (size rows short most : ℕ) (old inner a b d new : Writing) → 24 + short ≤ most → size < 2 ^ 63 → rows < 2 ^ 63 → IsOpen old → inner ≡ with_struct old
+    → PutsHeld 1 9 (SpellsListOf 12 SpellsChunk) chunks short inner a → Puts (number_item 2 6 size ∷ []) a b → Puts (number_item 3 6 rows ∷ []) b d → new ≡ with_end d
+    → Writes SpellsGroup (record { columns = Some chunks; rows = Some (pos rows) }) most old new
+group_added chunks size rows short most old inner a b d new room small few stands begun first second third ended =
     let i2 = number_item 2 6 size ∷ number_item 3 6 rows ∷ [] in
     let all = item 1 9 first.bytes ∷ i2 in
     let w2 : With i2 a d = items_then (number_item 2 6 size ∷ []) (number_item 3 6 rows ∷ []) a b d second.0 third.0 in
@@ -280,5 +329,6 @@ group_added chunks size rows old inner a b d new small few stands begun first se
         ),
         refl,
       );
+      size = at_most (struct_bytes all) (24 + short) most (group_short first.bytes size rows short small few first.size) room;
       goes_on = still_open (struct_bytes all) old new written stands;
     }

@@ -1,10 +1,6 @@
 -- Headers that are written are spelled, and short.
-use Rattle.std.proofs.Common.{rules, ◌≡◌, ℕ, zero, suc, ◌+◌, ◌*◌, ◌/◌, ◌%◌, ◌^◌, ◌<◌, ◌≤◌, Bool, true, false, cond, nat_lt, IsTrue, IsFalse, Some, ℤ, pos, List, [], ◌∷◌, ◌++◌, length, refl, ap, subst, ◌∙◌, append_assoc, arith, FitsSigned, w64}
-use Rattle.std.proofs.Math.Nat.{pow-suc}
+use Rattle.std.proofs.Common.{rules, ◌≡◌, ℕ, suc, ◌+◌, ◌^◌, ◌<◌, ◌≤◌, IsTrue, IsFalse, Some, ℤ, pos, List, [], ◌∷◌, ◌++◌, length, refl, ap, ◌∙◌, append_assoc, arith, FitsSigned, w64}
 use Rattle.std.proofs.lemmas.List.{length-append}
-use Rattle.std.proofs.lemmas.Nat.{div_below}
-use Rattle.std.proofs.lemmas.Bool.{ltb-false}
-use Rattle.dk_grammar.specs.Varint.{groups}
 use Rattle.dk_grammar.specs.Spelling.{field_bytes, whole_bytes, end_bytes}
 use Rattle.dk_grammar.specs.Thrift.{is_id}
 use Rattle.dk_grammar.specs.Structs.{Listed, SpellsFields, SpellsNumberField, SpellsStruct}
@@ -12,29 +8,11 @@ use Rattle.dk_grammar.specs.PageHeaders.{Part, number, inner, is_inner, SpellsPa
 use Rattle.dk_grammar.proofs.WrittenSpellings.{whole_written, field_written, end_written}
 use Rattle.dk_thrift.specs.Writing.{Writing}
 use Rattle.dk_pqwrite.specs.HeaderBytes.{page_parts, data_numbers, dictionary_numbers, with_number, number_bytes, begun_bytes}
-
--- ---- how long numbers are
-
-high_short : (k most n : ℕ) → 128 ≤ n → ((j : ℕ) → n / 128 < 128 ^ suc j → length (groups most (n / 128)) ≤ suc j) → n < 128 ^ suc k
-    → suc (length (groups most (n / 128))) ≤ suc k
-high_short zero most n large again small = absurd (omega arith)
-high_short (suc k) most n large again small =
-    let less : n / 128 < 128 ^ suc k = div_below n 128 (128 ^ suc k) (omega arith) (subst (λ p. n < p) (pow-suc 128 (suc k)) small) in
-    omega (arith, again k less)
-
-first_short : (b : Bool) (k most n : ℕ) → nat_lt n 128 ≡ b → ((j : ℕ) → n / 128 < 128 ^ suc j → length (groups most (n / 128)) ≤ suc j) → n < 128 ^ suc k
-    → length (cond b (n ∷ []) ((128 + n % 128) ∷ groups most (n / 128))) ≤ suc k
-first_short true k most n e again small = omega arith
-first_short false k most n e again small = high_short k most n (ltb-false n 128 e) again small
-
-groups_short : (k most n : ℕ) → n < 128 ^ suc k → length (groups most n) ≤ suc k
-unfolding groups
-groups_short k zero n small = omega arith
-groups_short k (suc most) n small = first_short (nat_lt n 128) k most n refl (λ j. groups_short j most (n / 128)) small
+use Rattle.dk_pqwrite.proofs.NumberSizes.{whole_32}
 
 -- a number below 2 to the 31 takes at most five bytes
-pub whole_short : (n : ℕ) → n < 2 ^ 31 → length (whole_bytes (pos n)) ≤ 5
-whole_short n small = groups_short 4 (2 * n) (2 * n) (omega arith)
+whole_short : (n : ℕ) → n < 2 ^ 31 → length (whole_bytes (pos n)) ≤ 5
+whole_short n small = whole_32 n (omega arith)
 
 -- ---- the fields of a header
 

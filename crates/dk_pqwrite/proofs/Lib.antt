@@ -9,6 +9,7 @@ pub mod HeaderSpelling
 pub mod Laid
 pub mod Names
 pub mod NodeElements
+pub mod NumberSizes
 pub mod OwnPaths
 pub mod OwnTree
 pub mod Packing

@@ -1,6 +1,7 @@
 -- The elements of nodes, one behind another.
 use Rattle.std.proofs.Common.{◌≡◌, ◌<◌, ◌≤◌, ◌^◌, ℕ, suc, ◌+◌, Bool, ℤ, pos, Option, Some, None, option_map, option_and_then, List, [], ◌∷◌, ◌++◌, length, drop, get_or, codes, rules, IfSome, Vec, Box, Global, string_bytes, refl, sym, ap, subst, ◌∙◌, arith}
 use Rattle.std.proofs.lemmas.List.{length-append, drop_all, append-nil}
+use Rattle.std.proofs.lemmas.List.Sums.{sum_by-append}
 use Rattle.std.proofs.lemmas.Bool.{lt-ltb}
 use Rattle.dk_thrift.specs.Writing.{Writing, IsOpen}
 use Rattle.dk_pqmodel.specs.Shape.{flag, int32, int64, chars, Shape, leaf, dictionary, Field, field, shape_in, is_nullable}
@@ -15,8 +16,8 @@ use Rattle.dk_pqmodel.specs.declared.node.NodeKind.{NodeKind, Map, the_lemmas}
 use Rattle.dk_pqmodel.specs.declared.node.NodeKind as node
 use Rattle.dk_pqmodel.proofs.NodeViews.{field_of-is, fields_of-drop, shape_of-List, shape_of-Map}
 use Rattle.dk_pqwrite.specs.Written.{written_as, written_in, written_nodes, nodes_at, physical_at}
-use Rattle.dk_pqwrite.specs.Items.{Adds}
-use Rattle.dk_pqwrite.specs.Elements.{fields_said, children_said, element_said, said, said_of, head_of, IsElementOf, AddsElements, AddsNode, AddsNodes}
+use Rattle.dk_pqwrite.specs.FooterSizes.{element_size}
+use Rattle.dk_pqwrite.specs.Elements.{fields_said, children_said, element_said, said, said_of, head_of, IsElementOf, WritesElement, WritesElements, WritesNode, WritesNodes}
 use Rattle.dk_pqwrite.proofs.Structs.{bytes_behind, none_added, each_behind, one_each}
 
 -- ---- added one behind another
@@ -35,34 +36,42 @@ each_then {A = A} {B = B} f (x ∷ xs) zs ys ws h k = by (f x) (each_of f xs) re
     by (Some y) None g t later = cc
     by (Some y) (Some more) g t later = rw (later more g) (ap (λ o. option_map (λ front. front ++ ws) o) t)
 
-pub elements_then : (fs gs : List ElementFields) (es ds : List Element) (u v w : Writing) → AddsElements fs es u v → AddsElements gs ds v w → AddsElements (fs ++ gs) (es ++ ds) u w
+pub elements_then : (fs gs : List ElementFields) (es ds : List Element) (u v w : Writing) → WritesElements fs es u v → WritesElements gs ds v w → WritesElements (fs ++ gs) (es ++ ds) u w
 elements_then fs gs es ds u v w first second = record {
   more = first.more ++ second.more;
   written = bytes_behind first.more second.more u v w first.written second.written;
   spelled = each_behind SpellsElement fs gs first.more second.more first.spelled second.spelled;
+  size = omega (arith, first.size, second.size, length-append first.more second.more, sum_by-append element_size fs gs);
   read = each_then element_of fs gs es ds first.read second.read;
   goes_on = second.goes_on;
 }
 
-pub no_elements : (w : Writing) → IsOpen w → AddsNodes no_nodes w w
-no_elements w h = record { more = []; written = none_added w; spelled = refl; read = refl; goes_on = h }
+pub no_elements : (w : Writing) → IsOpen w → WritesNodes no_nodes w w
+no_elements w h = record { more = []; written = none_added w; spelled = refl; size = omega arith; read = refl; goes_on = h }
 
-pub one_element : (f : ElementFields) (e : Element) (u v : Writing) → element_of f ≡ Some e → Adds SpellsElement f u v → AddsElements (f ∷ []) (e ∷ []) u v
-one_element f e u v read a = record { more = a.more; written = a.written; spelled = one_each SpellsElement f a.more a.spelled; read = rw read refl; goes_on = a.goes_on }
+pub one_element : (f : ElementFields) (e : Element) (u v : Writing) → element_of f ≡ Some e → WritesElement f u v → WritesElements (f ∷ []) (e ∷ []) u v
+one_element f e u v read a = record {
+  more = a.more;
+  written = a.written;
+  spelled = one_each SpellsElement f a.more a.spelled;
+  size = omega (arith, a.size);
+  read = rw read refl;
+  goes_on = a.goes_on;
+}
 
 -- an element, and then its children's
-pub node_added : (name : List ℕ) (r : ℕ) (p : Option ℤ) (ns : FileNodes) (f : ElementFields) (u v w : Writing) → IsElementOf f (file_node name r p ns) → Adds SpellsElement f u v → AddsNodes ns v w
-    → AddsNode (file_node name r p ns) u w
+pub node_added : (name : List ℕ) (r : ℕ) (p : Option ℤ) (ns : FileNodes) (f : ElementFields) (u v w : Writing) → IsElementOf f (file_node name r p ns) → WritesElement f u v → WritesNodes ns v w
+    → WritesNode (file_node name r p ns) u w
 node_added name r p ns f u v w is first inner =
     let n = file_node name r p ns in
     elements_then (element_said n ∷ []) (said_of ns) (head_of n ∷ []) (flat_of ns) u v w
-    (one_element (element_said n) (head_of n) u v is.read (subst (λ g. Adds SpellsElement g u v) is.said first)) inner
+    (one_element (element_said n) (head_of n) u v is.read (subst (λ g. WritesElement g u v) is.said first)) inner
 
 -- one node alone, and one before others
-pub only_added : (n : FileNode) (u v : Writing) → AddsNode n u v → AddsNodes (one_node n no_nodes) u v
+pub only_added : (n : FileNode) (u v : Writing) → WritesNode n u v → WritesNodes (one_node n no_nodes) u v
 only_added n u v a = elements_then (said n) [] (flat n) [] u v v a (no_elements v a.goes_on)
 
-pub more_added : (n : FileNode) (ns : FileNodes) (u v w : Writing) → AddsNode n u v → AddsNodes ns v w → AddsNodes (one_node n ns) u w
+pub more_added : (n : FileNode) (ns : FileNodes) (u v w : Writing) → WritesNode n u v → WritesNodes ns v w → WritesNodes (one_node n ns) u w
 more_added n ns u v w first more = elements_then (said n) (said_of ns) (flat n) (flat_of ns) u v w first more
 
 -- ---- by kinds
@@ -79,23 +88,23 @@ map_node f = file_node (codes "key_value") 2 None (one_node key_node (one_node (
 shape_of-Group : (v : Vec Node Global) → shape_of (node.Group v) ≡ shape.group (fields_of v.items)
 shape_of-Group v = search (rules, the_lemmas)
 
-pub list_added : (k : NodeKind) (b : Box Node Global) (n : Node) (f : ElementFields) (u v w : Writing) → k ≡ node.List b → n ≡ b.value → f ≡ fields_said (codes "list") (Some 2) None (Some 1) → Adds SpellsElement f u v
-    → AddsNode (written_as (codes "element") (field_of n)) v w → AddsNodes (nodes_at (shape_of k)) u w
+pub list_added : (k : NodeKind) (b : Box Node Global) (n : Node) (f : ElementFields) (u v w : Writing) → k ≡ node.List b → n ≡ b.value → f ≡ fields_said (codes "list") (Some 2) None (Some 1) → WritesElement f u v
+    → WritesNode (written_as (codes "element") (field_of n)) v w → WritesNodes (nodes_at (shape_of k)) u w
 list_added k b n f u v w is same named first inner =
     let e = field_of n in
     let whole = only_added (list_node e) u w (node_added (codes "list") 2 None (one_node (written_as (codes "element") e) no_nodes) f u v w (record { said = named; read = refl }) first
     (only_added (written_as (codes "element") e) v w inner)) in
-    subst (λ s. AddsNodes (nodes_at s) u w) (ap (λ m. shape.list (field_of m)) same ∙ sym (ap shape_of is ∙ shape_of-List b)) whole
+    subst (λ s. WritesNodes (nodes_at s) u w) (ap (λ m. shape.list (field_of m)) same ∙ sym (ap shape_of is ∙ shape_of-List b)) whole
 
-pub map_added : (k : NodeKind) (b : Box Node Global) (n : Node) (f g : ElementFields) (u v w x : Writing) → k ≡ Map b → n ≡ b.value → f ≡ fields_said (codes "key_value") (Some 2) None (Some 2) → Adds SpellsElement f u v
-    → g ≡ fields_said (codes "key") (Some 0) (Some 6) None → Adds SpellsElement g v w → AddsNode (written_as (codes "value") (field_of n)) w x → AddsNodes (nodes_at (shape_of k)) u x
+pub map_added : (k : NodeKind) (b : Box Node Global) (n : Node) (f g : ElementFields) (u v w x : Writing) → k ≡ Map b → n ≡ b.value → f ≡ fields_said (codes "key_value") (Some 2) None (Some 2) → WritesElement f u v
+    → g ≡ fields_said (codes "key") (Some 0) (Some 6) None → WritesElement g v w → WritesNode (written_as (codes "value") (field_of n)) w x → WritesNodes (nodes_at (shape_of k)) u x
 map_added k b n f g u v w x is same named first key second inner =
     let e = field_of n in
     let value = only_added (written_as (codes "value") e) w x inner in
     let keyed = node_added (codes "key") 0 (Some (pos 6)) no_nodes g v w w (record { said = key; read = refl }) second (no_elements w second.goes_on) in
     let both = more_added key_node (one_node (written_as (codes "value") e) no_nodes) v w x keyed value in
     let whole = only_added (map_node e) u x (node_added (codes "key_value") 2 None (one_node key_node (one_node (written_as (codes "value") e) no_nodes)) f u v x (record { said = named; read = refl }) first both) in
-    subst (λ s. AddsNodes (nodes_at s) u x) (ap (λ m. dictionary (field_of m)) same ∙ sym (ap shape_of is ∙ shape_of-Map b)) whole
+    subst (λ s. WritesNodes (nodes_at s) u x) (ap (λ m. dictionary (field_of m)) same ∙ sym (ap shape_of is ∙ shape_of-Map b)) whole
 
 -- ---- the element of a field
 
@@ -136,34 +145,34 @@ own_element name n r physical children nullable p c small =
     subst (λ f. IsElementOf (fields_said name (Some r) physical children) (written_as name f)) (sym (field_of-is n)) (field_said name (field (string_bytes n.name) n.nullable (shape_of n.kind)) r physical children nullable p c small)
 
 -- a node's element, and those below it
-pub kind_added : (name : List ℕ) (n : Node) (f : ElementFields) (u v w : Writing) → IsElementOf f (written_as name (field_of n)) → Adds SpellsElement f u v → AddsNodes (nodes_at (shape_of n.kind)) v w
-    → AddsNode (written_as name (field_of n)) u w
+pub kind_added : (name : List ℕ) (n : Node) (f : ElementFields) (u v w : Writing) → IsElementOf f (written_as name (field_of n)) → WritesElement f u v → WritesNodes (nodes_at (shape_of n.kind)) v w
+    → WritesNode (written_as name (field_of n)) u w
 kind_added name n f u v w is first inner =
     let same = field_of-is n in
-    subst (λ g. AddsNode (written_as name g) u w) (sym same) (node_added name (one_if n.nullable) (physical_at (shape_of n.kind)) (nodes_at (shape_of n.kind)) f u v w (subst (λ g. IsElementOf f (written_as name g)) same is) first inner)
+    subst (λ g. WritesNode (written_as name g) u w) (sym same) (node_added name (one_if n.nullable) (physical_at (shape_of n.kind)) (nodes_at (shape_of n.kind)) f u v w (subst (λ g. IsElementOf f (written_as name g)) same is) first inner)
 
 -- ---- nodes beside one another
 
 -- whatever adds the nodes from a place on adds all of them
 abbrev pub GoesOn : List Node → ℕ → Writing → Writing → Type 0
-GoesOn ns i old now = IsOpen now × ((new : Writing) → AddsNodes (written_nodes (fields_of (drop i ns))) now new → AddsNodes (written_nodes (fields_of ns)) old new)
+GoesOn ns i old now = IsOpen now × ((new : Writing) → WritesNodes (written_nodes (fields_of (drop i ns))) now new → WritesNodes (written_nodes (fields_of ns)) old new)
 
 written_named : (n : Node) → written_in (field_of n) ≡ written_as (string_bytes n.name) (field_of n)
 written_named n = rw (field_of-is n) refl
 
-pub next_node : (ns : List Node) (i : ℕ) (n : Node) (old now new : Writing) → i < length ns → n ≡ get_or ns i n → GoesOn ns i old now → AddsNode (written_as (string_bytes n.name) (field_of n)) now new
+pub next_node : (ns : List Node) (i : ℕ) (n : Node) (old now new : Writing) → i < length ns → n ≡ get_or ns i n → GoesOn ns i old now → WritesNode (written_as (string_bytes n.name) (field_of n)) now new
     → GoesOn ns (i + 1) old new
 next_node ns i n old now new room is before added = (
   added.goes_on,
-  λ last rest. before.1 last (subst (λ fs. AddsNodes (written_nodes fs) now last) (sym (fields_of-drop ns i n room is))
-      (more_added (written_in (field_of n)) (written_nodes (fields_of (drop (i + 1) ns))) now new last (subst (λ m. AddsNode m now new) (sym (written_named n)) added) rest)),
+  λ last rest. before.1 last (subst (λ fs. WritesNodes (written_nodes fs) now last) (sym (fields_of-drop ns i n room is))
+      (more_added (written_in (field_of n)) (written_nodes (fields_of (drop (i + 1) ns))) now new last (subst (λ m. WritesNode m now new) (sym (written_named n)) added) rest)),
 )
 
 drop_past : (ns : List Node) (i : ℕ) → length ns ≤ i → drop i ns ≡ []
 drop_past ns i h = grind (arith, drop_all)
 
-pub all_nodes : (ns : List Node) (i : ℕ) (old now : Writing) → length ns ≤ i → GoesOn ns i old now → AddsNodes (written_nodes (fields_of ns)) old now
-all_nodes ns i old now past before = before.1 now (subst (λ left. AddsNodes (written_nodes (fields_of left)) now now) (sym (drop_past ns i past)) (no_elements now before.0))
+pub all_nodes : (ns : List Node) (i : ℕ) (old now : Writing) → length ns ≤ i → GoesOn ns i old now → WritesNodes (written_nodes (fields_of ns)) old now
+all_nodes ns i old now past before = before.1 now (subst (λ left. WritesNodes (written_nodes (fields_of left)) now now) (sym (drop_past ns i past)) (no_elements now before.0))
 
 -- ---- their number
 

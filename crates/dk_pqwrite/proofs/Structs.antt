@@ -1,14 +1,16 @@
 -- What is written field by field is a struct of these fields.
-use Rattle.std.proofs.Common.{◌≡◌, ◌≢◌, ◌<◌, ◌≤◌, ◌^◌, ◌+◌, ℕ, zero, suc, true, map, drop, get_or, add-one, ℤ, pos, IsTrue, Option, List, [], ◌∷◌, ◌++◌, length, refl, sym, ap, subst, ◌∙◌, append_assoc, arith}
-use Rattle.std.proofs.lemmas.List.{append-nil, drop_all, length-map}
+use Rattle.std.proofs.Common.{◌≡◌, ◌<◌, ◌≤◌, ◌^◌, ◌+◌, ◌*◌, ℕ, zero, suc, true, map, drop, get_or, add-one, ℤ, pos, IsTrue, Option, List, [], ◌∷◌, ◌++◌, length, sum_by, refl, sym, ap, subst, ◌∙◌, append_assoc, arith}
+use Rattle.std.proofs.lemmas.List.{append-nil, drop_all, length-append, length-map}
+use Rattle.std.proofs.lemmas.List.Sums.{sum_by-cons}
 use Rattle.dk_grammar.specs.Thrift.{is_id, is_kind, head}
 use Rattle.dk_grammar.specs.Grammar.{SpellsList}
 use Rattle.dk_grammar.specs.Spelling.{field_bytes, list_bytes}
 use Rattle.dk_grammar.specs.Structs.{Listed, under, SpellsFields, SpellsStruct}
 use Rattle.dk_grammar.specs.Lists.{SpellsEach, SpellsListOf}
 use Rattle.dk_grammar.proofs.WrittenSpellings.{field_written, end_written, list_written}
-use Rattle.dk_thrift.specs.Writing.{Writing, IsOpen, field_in, with_bytes, with_struct, with_field, with_end}
-use Rattle.dk_pqwrite.specs.Items.{Item, items_bytes, struct_bytes, with_items, Adds, PutsHeld}
+use Rattle.dk_thrift.specs.Writing.{Writing, IsOpen, with_bytes, with_struct, with_field, with_end}
+use Rattle.dk_pqwrite.specs.Items.{Item, items_bytes, struct_bytes, with_items, Writes, PutsHeld}
+use Rattle.dk_pqwrite.proofs.NumberSizes.{list_short}
 
 -- ---- the writer
 
@@ -41,6 +43,15 @@ none_added w = ap (λ all. record { bytes = all; structs = w.structs }) (sym (ap
 
 pub still_open : (more : List ℕ) (old new : Writing) → new ≡ with_bytes more old → IsOpen old → IsOpen new
 still_open more old new e h none = h (sym (ap (λ w. w.structs) e) ∙ none)
+
+pub at_most : (bytes : List ℕ) (few most : ℕ) → length bytes ≤ few → few ≤ most → length bytes ≤ most
+at_most bytes few most h room = omega (arith, h, room)
+
+-- a field whose header is one byte
+pub item_short : (last : ℤ) (x : Item) (xs : List Item) (own most : ℕ) → length (field_bytes last x.id x.kind) ≡ 1 → length x.bytes ≤ own → length (items_bytes x.id xs) ≤ most
+    → length (items_bytes last (x ∷ xs)) ≤ 1 + own + most
+item_short last x xs own most one few rest =
+    omega (arith, one, few, rest, length-append (field_bytes last x.id x.kind) (x.bytes ++ items_bytes x.id xs), length-append x.bytes (items_bytes x.id xs))
 
 -- ---- the grammar
 
@@ -93,9 +104,9 @@ pub one_each : {A : Type 0} (spells : List ℕ → A → Type 0) (x : A) (a : Li
 one_each spells x a s = (a, ([], sym (append-nil a), s, refl))
 
 -- whatever adds the values from a place on adds all of them
-abbrev pub GoesOn : {A B : Type 0} → (List ℕ → B → Type 0) → (A → B) → List A → ℕ → Writing → Writing → Type 0
-GoesOn spells view xs i old now =
-    IsOpen now × ((new : Writing) → Adds (SpellsEach spells) (map view (drop i xs)) now new → Adds (SpellsEach spells) (map view xs) old new)
+abbrev pub GoesOn : {A B : Type 0} → (List ℕ → B → Type 0) → (A → B) → (A → ℕ) → List A → ℕ → Writing → Writing → Type 0
+GoesOn spells view size xs i old now =
+    IsOpen now × ((new : Writing) → Writes (SpellsEach spells) (map view (drop i xs)) (sum_by size (drop i xs)) now new → Writes (SpellsEach spells) (map view xs) (sum_by size xs) old new)
 
 drop_step : {A : Type 0} (xs : List A) (i : ℕ) (x : A) → i < length xs → x ≡ get_or xs i x → drop i xs ≡ x ∷ drop (suc i) xs
 drop_step [] i x room is = absurd (omega arith)
@@ -108,55 +119,55 @@ drop_next xs i x room is = rw add-one (drop_step xs i x room is)
 drop_past : {A : Type 0} (xs : List A) (i : ℕ) → length xs ≤ i → drop i xs ≡ []
 drop_past xs i h = grind (arith, drop_all)
 
-none_more : {B : Type 0} (spells : List ℕ → B → Type 0) (w : Writing) → IsOpen w → Adds (SpellsEach spells) [] w w
-none_more spells w h = record { more = []; written = none_added w; spelled = refl; goes_on = h }
+none_more : {B : Type 0} (spells : List ℕ → B → Type 0) (w : Writing) → IsOpen w → Writes (SpellsEach spells) [] 0 w w
+none_more spells w h = record { more = []; written = none_added w; spelled = refl; size = omega arith; goes_on = h }
 
-module _ {A B : Type 0} (spells : List ℕ → B → Type 0) (view : A → B) where
-  one_more : (x : B) (xs : List B) (u v w : Writing) → Adds spells x u v → Adds (SpellsEach spells) xs v w → Adds (SpellsEach spells) (x ∷ xs) u w
+module _ {A B : Type 0} (spells : List ℕ → B → Type 0) (view : A → B) (size : A → ℕ) where
+  one_more : (x : A) (xs : List A) (u v w : Writing) → Writes spells (view x) (size x) u v → Writes (SpellsEach spells) (map view xs) (sum_by size xs) v w
+      → Writes (SpellsEach spells) (map view (x ∷ xs)) (sum_by size (x ∷ xs)) u w
   one_more x xs u v w first others = record {
     more = first.more ++ others.more;
     written = bytes_behind first.more others.more u v w first.written others.written;
     spelled = (first.more, (others.more, refl, first.spelled, others.spelled));
+    size = omega (arith, first.size, others.size, length-append first.more others.more, sum_by-cons size x xs);
     goes_on = others.goes_on;
   }
 
-  pub next_value : (xs : List A) (i : ℕ) (x : A) (old now new : Writing) → i < length xs → x ≡ get_or xs i x → GoesOn spells view xs i old now → Adds spells (view x) now new → GoesOn spells view xs (i + 1) old new
+  pub next_value : (xs : List A) (i : ℕ) (x : A) (old now new : Writing) → i < length xs → x ≡ get_or xs i x → GoesOn spells view size xs i old now → Writes spells (view x) (size x) now new
+      → GoesOn spells view size xs (i + 1) old new
   next_value xs i x old now new room is before added = (
     added.goes_on,
-    λ last rest. before.1 last (subst (λ left. Adds (SpellsEach spells) (map view left) now last) (sym (drop_next xs i x room is)) (one_more (view x) (map view (drop (i + 1) xs)) now new last added rest)),
+    λ last rest. before.1 last (subst (λ left. Writes (SpellsEach spells) (map view left) (sum_by size left) now last) (sym (drop_next xs i x room is)) (one_more x (drop (i + 1) xs) now new last added rest)),
   )
 
-  pub all_values : (xs : List A) (i : ℕ) (old now : Writing) → length xs ≤ i → GoesOn spells view xs i old now → Adds (SpellsEach spells) (map view xs) old now
-  all_values xs i old now past before = before.1 now (subst (λ left. Adds (SpellsEach spells) (map view left) now now) (sym (drop_past xs i past)) (none_more spells now before.0))
+  pub all_values : (xs : List A) (i : ℕ) (old now : Writing) → length xs ≤ i → GoesOn spells view size xs i old now → Writes (SpellsEach spells) (map view xs) (sum_by size xs) old now
+  all_values xs i old now past before =
+      before.1 now (subst (λ left. Writes (SpellsEach spells) (map view left) (sum_by size left) now now) (sym (drop_past xs i past)) (none_more spells now before.0))
 
--- ---- values inside fields
+-- the same sum, of what the values are seen as
+pub sum_of : {A B : Type 0} (size : B → ℕ) (view : A → B) (xs : List A) → sum_by (λ x. size (view x)) xs ≡ sum_by size (map view xs)
+sum_of size view [] = refl
+sum_of size view (x ∷ xs) =
+    sum_by-cons (λ y. size (view y)) x xs ∙ ap (λ n. size (view x) + n) (sum_of size view xs) ∙ sym (sum_by-cons size (view x) (map view xs))
 
-field_open : (structs : List ℤ) (id : ℤ) (kind : ℕ) (w : Writing) → structs ≢ [] → IsOpen (field_in structs id kind w)
-field_open [] id kind w h = absurd (h refl)
-field_open (last ∷ outer) id kind w h = λ none. cons_is_not_nil id outer none
-  where
-    cons_is_not_nil : (x : ℤ) (xs : List ℤ) → x ∷ xs ≡ [] → ⊥
-    cons_is_not_nil x xs e = cc
+pub sum_of_twos : {A : Type 0} (xs : List A) → sum_by (λ x. 2) xs ≡ 2 * length xs
+sum_of_twos [] = refl
+sum_of_twos {A} (x ∷ xs) = omega (arith, sum_by-cons (λ (y : A). 2) x xs, sum_of_twos xs)
 
-pub header_open : (id : ℤ) (kind : ℕ) (old new : Writing) → new ≡ with_field id kind old → IsOpen old → IsOpen new
-header_open id kind old new e h = subst IsOpen (sym e) (field_open old.structs id kind old h)
+-- ---- a list inside a field
 
--- a struct
-pub struct_held : {B : Type 0} (id : ℕ) (spells : List ℕ → B → Type 0) (value : B) (old header new : Writing) → header ≡ with_field (pos id) 12 old → Adds spells value header new → PutsHeld id 12 spells value old new
-struct_held id spells value old header new e a = record { bytes = a.more; written = a.written ∙ ap (with_bytes a.more) e; spelled = a.spelled; goes_on = a.goes_on }
-
--- a list
-pub list_held : {B : Type 0} (id kind count : ℕ) (spells : List ℕ → B → Type 0) (values : List B) (old header counted new : Writing) → header ≡ with_field (pos id) 9 old → counted ≡ with_bytes (list_bytes count kind) header
-    → count ≡ length values → count < 2 ^ 32 → is_kind kind ≡ true → Adds (SpellsEach spells) values counted new → PutsHeld id 9 (SpellsListOf kind spells) values old new
-list_held id kind count spells values old header counted new e f same small known a = record {
+pub list_held : {B : Type 0} (id kind count : ℕ) (spells : List ℕ → B → Type 0) (values : List B) (few most : ℕ) (old header counted new : Writing) → 6 + few ≤ most → header ≡ with_field (pos id) 9 old → counted ≡ with_bytes (list_bytes count kind) header
+    → count ≡ length values → count < 2 ^ 32 → is_kind kind ≡ true → Writes (SpellsEach spells) values few counted new → PutsHeld id 9 (SpellsListOf kind spells) values most old new
+list_held id kind count spells values few most old header counted new room e f same small known a = record {
   bytes = list_bytes count kind ++ a.more;
   written = bytes_behind (list_bytes count kind) a.more header counted new f a.written ∙ ap (with_bytes (list_bytes count kind ++ a.more)) e;
   spelled = (list_bytes count kind, (a.more, refl, subst (λ n. SpellsList (list_bytes count kind) (head n kind)) same (list_written count kind small known), a.spelled));
+  size = omega (arith, room, a.size, list_short count kind small, length-append (list_bytes count kind) a.more);
   goes_on = a.goes_on;
 }
 
 pub length_of_map : {A B : Type 0} (f : A → B) (xs : List A) (n : ℕ) → n ≡ length xs → n ≡ length (map f xs)
 length_of_map f xs n e = e ∙ sym (length-map xs f)
 
-pub one_value : {B : Type 0} (spells : List ℕ → B → Type 0) (x : B) (old new : Writing) → Adds spells x old new → Adds (SpellsEach spells) (x ∷ []) old new
-one_value spells x old new a = record { more = a.more; written = a.written; spelled = one_each spells x a.more a.spelled; goes_on = a.goes_on }
+pub one_value : {B : Type 0} (spells : List ℕ → B → Type 0) (x : B) (most : ℕ) (old new : Writing) → Writes spells x most old new → Writes (SpellsEach spells) (x ∷ []) most old new
+one_value spells x most old new a = record { more = a.more; written = a.written; spelled = one_each spells x a.more a.spelled; size = a.size; goes_on = a.goes_on }

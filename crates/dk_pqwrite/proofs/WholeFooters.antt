@@ -1,16 +1,20 @@
 -- A footer is spelled by its parts, and the file by the footer.
-use Rattle.std.proofs.Common.{◌≡◌, ◌<◌, ◌^◌, ◌+◌, ◌==◌, ℕ, ℤ, pos, nat_le, true, false, Option, Some, None, option_map, IfSome, All, List, [], ◌∷◌, ◌++◌, length, map, codes, refl, sym, ap, subst, ◌∙◌, arith, lit<, append_assoc}
+use Rattle.std.proofs.Common.{◌≡◌, ◌<◌, ◌≤◌, ◌^◌, ◌+◌, ◌==◌, ℕ, ℤ, pos, nat_le, true, false, Option, Some, None, option_map, IfSome, All, List, [], ◌∷◌, ◌++◌, length, map, sum_by, codes, refl, sym, ap, subst, ◌∙◌, arith, lit<, append_assoc}
 use Rattle.std.proofs.lemmas.Bool.{lt-ltb, le-leb, ne_eqb}
 use Rattle.std.specs.List.{AllByRecursion}
+use Rattle.std.proofs.lemmas.List.{length-append}
 use Rattle.std.proofs.lemmas.List.Elements.{recursion_from_All}
+use Rattle.std.proofs.lemmas.List.Sums.{sum_by-cons}
 use Rattle.dk_grammar.specs.Plain.{little}
 use Rattle.dk_grammar.specs.Spelling.{list_bytes}
 use Rattle.dk_grammar.specs.Structs.{Listed, SpellsStruct, SpellsNumberField}
 use Rattle.dk_grammar.specs.Lists.{Either, held, other, SpellsListOf, SpellsHeldOr}
+use Rattle.dk_grammar.proofs.Digits.{length-digits_of}
 use Rattle.dk_grammar.proofs.WrittenSpellings.{whole_written, binary_written}
 use Rattle.dk_thrift.specs.Writing.{Writing, with_bytes, with_field, with_struct, with_end}
 use Rattle.dk_pqmodel.specs.Shape.{Fields}
 use Rattle.dk_pqmodel.specs.Schema.{IsSchema}
+use Rattle.dk_pqmodel.specs.FileMeans.{columns_of}
 use Rattle.dk_pqmodel.specs.NodeView.{fields_of}
 use Rattle.dk_pqmodel.specs.Footer as plain
 use Rattle.dk_pqmodel.specs.Footer.{ElementFields, GroupFields, count_of, flat_of, each_of, element_of, chunk_of, group_of, place_of, ◌>=◌}
@@ -18,16 +22,18 @@ use Rattle.dk_pqmodel.specs.FooterBytes.{SpellsElement, SpellsGroup, SpellsMetaD
 use Rattle.dk_pqmodel.specs.declared.node.Node.{Node}
 use Rattle.dk_pqwrite.specs.declared.chunk.Chunk.{Chunk}
 use Rattle.dk_pqwrite.specs.Chunks.{IsFit, path_of_chunk, chunk_view, chunk_said, group_said}
-use Rattle.dk_pqwrite.specs.Elements.{fields_said, said_of, AddsNodes}
-use Rattle.dk_pqwrite.specs.Footers.{SpellsFields, file_said, root_of, root_said, PutsSchema, AreColumnsOf, footer_of, EndsFile}
-use Rattle.dk_pqwrite.specs.Items.{number_item, text_item, struct_bytes, Puts, Adds, PutsHeld}
-use Rattle.dk_pqwrite.specs.OverItself.{path_in}
+use Rattle.dk_pqwrite.specs.Elements.{fields_said, said_of, WritesElement, WritesNodes}
+use Rattle.dk_pqwrite.specs.FooterSizes.{name_size, element_size, chunk_size}
+use Rattle.dk_pqwrite.specs.Footers.{SpellsFields, file_said, root_of, root_said, elements_size, footer_size, PutsSchema, AreColumnsOf, footer_of, EndsFile}
+use Rattle.dk_pqwrite.specs.Items.{number_item, text_item, items_bytes, struct_bytes, Puts, PutsHeld}
+use Rattle.dk_pqwrite.specs.OverItself.{own_plans, path_in, path_of}
 use Rattle.dk_pqwrite.specs.Written.{written_nodes}
 use Rattle.dk_pqwrite.proofs.FooterStructs.{fits, item, With}
 use Rattle.dk_pqwrite.proofs.NodeElements.{count_is, one_element, elements_then}
+use Rattle.dk_pqwrite.proofs.NumberSizes.{whole_32, whole_64, name_short}
 use Rattle.dk_pqwrite.proofs.OwnPaths.{chunks_distinct}
 use Rattle.dk_pqwrite.proofs.OwnTree.{own_tree}
-use Rattle.dk_pqwrite.proofs.Structs.{struct_spelled, items_then, struct_ended, list_held}
+use Rattle.dk_pqwrite.proofs.Structs.{struct_spelled, at_most, item_short, items_then, struct_ended, list_held}
 
 -- ---- the schema
 
@@ -44,15 +50,15 @@ one_more : (n : ℕ) (xs : List ElementFields) (x : ElementFields) → n ≡ len
 one_more n xs x e = omega (arith, e)
 
 pub schema_added : (fs : Fields) (f : ElementFields) (count : ℕ) (old header counted v new : Writing) → header ≡ with_field (pos 2) 9 old → counted ≡ with_bytes (list_bytes count 12) header
-    → count ≡ length (said_of (written_nodes fs)) + 1 → count < 2 ^ 32 → f ≡ root_said fs → count_of (written_nodes fs) < 2 ^ 31 → Adds SpellsElement f counted v → AddsNodes (written_nodes fs) v new
+    → count ≡ length (said_of (written_nodes fs)) + 1 → count < 2 ^ 32 → f ≡ root_said fs → count_of (written_nodes fs) < 2 ^ 31 → WritesElement f counted v → WritesNodes (written_nodes fs) v new
     → PutsSchema fs old new
 schema_added fs f count old header counted v new e g same small named few first nodes =
     let ns = written_nodes fs in
-    let root = one_element (root_said fs) (root_of fs) counted v (root_read fs few) (subst (λ s. Adds SpellsElement s counted v) named first) in
+    let root = one_element (root_said fs) (root_of fs) counted v (root_read fs few) (subst (λ s. WritesElement s counted v) named first) in
     let all = elements_then (root_said fs ∷ []) (said_of ns) (root_of fs ∷ []) (flat_of ns) counted v new root nodes in
     record {
-      held = list_held 2 12 count SpellsElement (root_said fs ∷ said_of ns) old header counted new e g (one_more count (said_of ns) (root_said fs) same) small refl
-          (record { more = all.more; written = all.written; spelled = all.spelled; goes_on = all.goes_on });
+      held = list_held 2 12 count SpellsElement (root_said fs ∷ said_of ns) (elements_size fs) (6 + elements_size fs) old header counted new (omega arith) e g
+          (one_more count (said_of ns) (root_said fs) same) small refl (record { more = all.more; written = all.written; spelled = all.spelled; size = all.size; goes_on = all.goes_on });
       read = all.read;
     }
 
@@ -93,10 +99,34 @@ file_spells = SpellsHeldOr (pos 2) 9 (SpellsListOf 12 SpellsElement) (SpellsHeld
 abbrev empty : Writing
 empty = record { bytes = []; structs = [] }
 
-module _ (elements : List ElementFields) (rows : ℕ) (groups : List GroupFields) (author : List ℕ) (begun a b d e f new : Writing) where
-  pub file_added : rows < 2 ^ 63 → length author < 2 ^ 64 → begun ≡ with_struct empty → Puts (number_item 1 5 1 ∷ []) begun a → PutsHeld 2 9 (SpellsListOf 12 SpellsElement) elements a b
-      → Puts (number_item 3 6 rows ∷ []) b d → PutsHeld 4 9 (SpellsListOf 12 SpellsGroup) groups d e → Puts (text_item 6 author ∷ []) e f → new ≡ with_end f → SpellsMetaData new.bytes (record { schema = Some elements; rows = Some (pos rows); groups = Some groups })
-  file_added few short started first second third fourth fifth ended =
+file_short : (rows : ℕ) (schema groups author : List ℕ) (few short : ℕ) → rows < 2 ^ 63 → length author < 2 ^ 64 → length schema ≤ few → length groups ≤ short
+    → length (struct_bytes (number_item 1 5 1 ∷ item 2 9 schema ∷ number_item 3 6 rows ∷ item 4 9 groups ∷ text_item 6 author ∷ [])) ≤ 21 + few + short + name_size author
+file_short rows schema groups author few short small known h k =
+    let own = name_size author in
+    let i5 = text_item 6 author ∷ [] in
+    let i4 = item 4 9 groups ∷ i5 in
+    let i3 = number_item 3 6 rows ∷ i4 in
+    let i2 = item 2 9 schema ∷ i3 in
+    let s5 : length (items_bytes (pos 4) i5) ≤ 1 + own + 1 = item_short (pos 4) (text_item 6 author) [] own 1 refl (name_short author known) (omega arith) in
+    let s4 : length (items_bytes (pos 3) i4) ≤ 1 + short + (1 + own + 1) = item_short (pos 3) (item 4 9 groups) i5 short (1 + own + 1) refl k s5 in
+    let s3 : length (items_bytes (pos 2) i3) ≤ 11 + (1 + short + (1 + own + 1)) = item_short (pos 2) (number_item 3 6 rows) i4 10 (1 + short + (1 + own + 1)) refl (whole_64 rows small) s4 in
+    let s2 : length (items_bytes (pos 1) i2) ≤ 1 + few + (11 + (1 + short + (1 + own + 1))) = item_short (pos 1) (item 2 9 schema) i3 few (11 + (1 + short + (1 + own + 1))) refl h s3 in
+    let s1 = item_short (pos 0) (number_item 1 5 1) i2 5 (1 + few + (11 + (1 + short + (1 + own + 1)))) refl (whole_32 1 (lit< tt)) s2 in
+    at_most (struct_bytes (number_item 1 5 1 ∷ i2)) (6 + (1 + few + (11 + (1 + short + (1 + own + 1))))) (21 + few + short + own) s1 (sum_is few short own)
+  where
+    sum_is : (few short own : ℕ) → 6 + (1 + few + (11 + (1 + short + (1 + own + 1)))) ≤ 21 + few + short + own
+    sum_is few short own = omega arith
+
+-- The bytes of a FileMetaData spell it, and are no more than so many.
+pub record IsFile (elements : List ElementFields) (rows : ℕ) (groups : List GroupFields) (most : ℕ) (bytes : List ℕ) : Type 0 where
+  pub spelled : SpellsMetaData bytes (record { schema = Some elements; rows = Some (pos rows); groups = Some groups })
+  pub size : length bytes ≤ most
+
+module _ (elements : List ElementFields) (rows : ℕ) (groups : List GroupFields) (author : List ℕ) (few short most : ℕ) (begun a b d e f new : Writing) where
+  pub file_added : 21 + few + short + name_size author ≤ most → rows < 2 ^ 63 → length author < 2 ^ 64 → begun ≡ with_struct empty → Puts (number_item 1 5 1 ∷ []) begun a
+      → PutsHeld 2 9 (SpellsListOf 12 SpellsElement) elements few a b → Puts (number_item 3 6 rows ∷ []) b d → PutsHeld 4 9 (SpellsListOf 12 SpellsGroup) groups short d e
+      → Puts (text_item 6 author ∷ []) e f → new ≡ with_end f → IsFile elements rows groups most new.bytes
+  file_added room small known started first second third fourth fifth ended =
       let i4 = item 4 9 fourth.bytes ∷ text_item 6 author ∷ [] in
       let i3 = number_item 3 6 rows ∷ i4 in
       let i2 = item 2 9 second.bytes ∷ i3 in
@@ -106,45 +136,47 @@ module _ (elements : List ElementFields) (rows : ℕ) (groups : List GroupFields
       let w2 : With i2 a f = items_then (item 2 9 second.bytes ∷ []) i3 a b f second.written w3 in
       let w1 : With all begun f = items_then (number_item 1 5 1 ∷ []) i2 begun a f first.0 w2 in
       let written : new.bytes ≡ struct_bytes all = ap (λ w. w.bytes) (struct_ended all empty begun f new started w1 ended) in
-      let parts : Listed (Either (List ElementFields) Groups) = (pos 1, other (other (pos 1))) ∷ (pos 2, held elements) ∷ (pos 3, other (other (pos rows))) ∷ (pos 4, other (held groups)) ∷ [] in (
-        parts,
-        subst (λ bytes. SpellsStruct file_spells bytes parts) (sym written) (struct_spelled file_spells all parts (
-          Some (other (other (pos 1))),
-          (
-            _,
+      let parts : Listed (Either (List ElementFields) Groups) = (pos 1, other (other (pos 1))) ∷ (pos 2, held elements) ∷ (pos 3, other (other (pos rows))) ∷ (pos 4, other (held groups)) ∷ [] in record {
+        spelled = (
+          parts,
+          subst (λ bytes. SpellsStruct file_spells bytes parts) (sym written) (struct_spelled file_spells all parts (
+            Some (other (other (pos 1))),
             (
-              refl,
-              refl,
-              refl,
-              (refl, (refl, (refl, whole_written (pos 1) (fits 1 (lit< tt))))),
+              _,
               (
-                Some (held elements),
+                refl,
+                refl,
+                refl,
+                (refl, (refl, (refl, whole_written (pos 1) (fits 1 (lit< tt))))),
                 (
-                  _,
+                  Some (held elements),
                   (
-                    refl,
-                    refl,
-                    refl,
-                    (refl, second.spelled),
+                    _,
                     (
-                      Some (other (other (pos rows))),
+                      refl,
+                      refl,
+                      refl,
+                      (refl, second.spelled),
                       (
-                        _,
+                        Some (other (other (pos rows))),
                         (
-                          refl,
-                          refl,
-                          refl,
-                          (refl, (refl, (refl, whole_written (pos rows) (fits rows few)))),
+                          _,
                           (
-                            Some (other (held groups)),
+                            refl,
+                            refl,
+                            refl,
+                            (refl, (refl, (refl, whole_written (pos rows) (fits rows small)))),
                             (
-                              _,
+                              Some (other (held groups)),
                               (
-                                refl,
-                                refl,
-                                refl,
-                                (refl, (refl, fourth.spelled)),
-                                (None, (_, (refl, refl, refl, (refl, (refl, (refl, (refl, (author, binary_written author short))))), refl))),
+                                _,
+                                (
+                                  refl,
+                                  refl,
+                                  refl,
+                                  (refl, (refl, fourth.spelled)),
+                                  (None, (_, (refl, refl, refl, (refl, (refl, (refl, (refl, (author, binary_written author known))))), refl))),
+                                ),
                               ),
                             ),
                           ),
@@ -155,10 +187,12 @@ module _ (elements : List ElementFields) (rows : ℕ) (groups : List GroupFields
                 ),
               ),
             ),
-          ),
-        )),
-        refl,
-      )
+          )),
+          refl,
+        );
+        size = subst (λ bytes. length bytes ≤ most) (sym written)
+            (at_most (struct_bytes all) (21 + few + short + name_size author) most (file_short rows second.bytes fourth.bytes author few short small known second.size fourth.size) room);
+      }
 
 pub footer_spelled : (fs : Fields) (rows : ℕ) (cs : List Chunk) (bytes : List ℕ) → IsSchema fs → All IsFit cs → AreColumnsOf fs cs → SpellsFields fs rows cs bytes → SpellsFooter bytes (footer_of fs rows cs)
 footer_spelled fs rows cs bytes is fit columns file = (
@@ -181,3 +215,19 @@ file_ended footer before part bytes content spelled begun small e = (part, recor
 
 pub four_parts : (a b c d whole : List ℕ) → whole ≡ ((a ++ b) ++ c) ++ d → whole ≡ a ++ (b ++ (c ++ d))
 four_parts a b c d whole e = e ∙ append_assoc (a ++ b) c d ∙ append_assoc a b (c ++ d)
+
+-- with the footer come its length in four bytes, and the magic
+pub file_size : (before part bytes : List ℕ) (most : ℕ) → bytes ≡ before ++ (part ++ (little 4 (length part) ++ magic)) → length part ≤ 70 + most → length bytes ≤ length before + 78 + most
+file_size before part bytes most e h =
+    let a = length-append before (part ++ (little 4 (length part) ++ magic)) in
+    let b = length-append part (little 4 (length part) ++ magic) in
+    let c : length (little 4 (length part) ++ magic) ≡ length (little 4 (length part)) + 4 = length-append (little 4 (length part)) magic in
+    let four : length (little 4 (length part)) ≡ 4 = length-digits_of 256 4 (length part) in
+    omega (arith, ap length e, a, b, c, four, h)
+
+-- where the chunks are those of the schema's columns, the schema alone says how many bytes that are
+pub footer_size_is : (fs : Fields) (cs : List Chunk) → AreColumnsOf fs cs
+    → footer_size fs cs ≡ 31 + sum_by element_size (said_of (written_nodes fs)) + sum_by chunk_size (map path_of (columns_of (own_plans fs []) 0 0))
+footer_size_is fs cs columns =
+    let root : element_size (root_said fs) ≡ 31 = refl in
+    omega (arith, root, sum_by-cons element_size (root_said fs) (said_of (written_nodes fs)), ap (sum_by chunk_size) columns)

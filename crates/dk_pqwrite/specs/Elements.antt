@@ -1,11 +1,12 @@
 -- The elements that spell the schema that is written.
-use Rattle.std.specs.Prelude.{◌≡◌, ℕ, ℤ, pos, List, [], ◌∷◌, ◌++◌, Option, Some, None, option_map}
+use Rattle.std.specs.Prelude.{◌≡◌, ◌≤◌, ℕ, ℤ, pos, List, [], ◌∷◌, ◌++◌, length, sum_by, Option, Some, None, option_map}
 use Rattle.dk_grammar.specs.Lists.{SpellsEach}
 use Rattle.dk_thrift.specs.Writing.{Writing, IsOpen, with_bytes}
 use Rattle.dk_pqmodel.specs.FileSchema.{FileNode, file_node, FileNodes, no_nodes, one_node}
 use Rattle.dk_pqmodel.specs.Footer.{Element, ElementFields, count_of, each_of, element_of, flat, flat_of}
 use Rattle.dk_pqmodel.specs.FooterBytes.{SpellsElement}
-use Rattle.dk_pqwrite.specs.Items.{Item, text_item, optional_items}
+use Rattle.dk_pqwrite.specs.FooterSizes.{element_size}
+use Rattle.dk_pqwrite.specs.Items.{Item, text_item, optional_items, Writes}
 
 -- the fields of an element, those that are there
 abbrev pub element_items : List ℕ → Option ℕ → Option ℕ → Option ℕ → Option ℕ → List Item
@@ -43,16 +44,21 @@ pub record IsElementOf (fields : ElementFields) (node : FileNode) : Type 0 where
   pub said : fields ≡ element_said node
   pub read : element_of (element_said node) ≡ Some (head_of node)
 
+-- The bytes of one element are added.
+abbrev pub WritesElement : ElementFields → Writing → Writing → Type 0
+WritesElement fields old new = Writes SpellsElement fields (element_size fields) old new
+
 -- Elements are added that are read as these, and the current struct goes on.
-pub record AddsElements (fields : List ElementFields) (elements : List Element) (old new : Writing) : Type 0 where
+pub record WritesElements (fields : List ElementFields) (elements : List Element) (old new : Writing) : Type 0 where
   pub more : List ℕ
   pub written : new ≡ with_bytes more old
   pub spelled : SpellsEach SpellsElement more fields
+  pub size : length more ≤ sum_by element_size fields
   pub read : each_of element_of fields ≡ Some elements
   pub goes_on : IsOpen new
 
-abbrev pub AddsNode : FileNode → Writing → Writing → Type 0
-AddsNode node old new = AddsElements (said node) (flat node) old new
+abbrev pub WritesNode : FileNode → Writing → Writing → Type 0
+WritesNode node old new = WritesElements (said node) (flat node) old new
 
-abbrev pub AddsNodes : FileNodes → Writing → Writing → Type 0
-AddsNodes nodes old new = AddsElements (said_of nodes) (flat_of nodes) old new
+abbrev pub WritesNodes : FileNodes → Writing → Writing → Type 0
+WritesNodes nodes old new = WritesElements (said_of nodes) (flat_of nodes) old new

@@ -1,5 +1,5 @@
 -- The footer that is written, and the file that it ends.
-use Rattle.std.specs.Prelude.{◌≡◌, ℕ, pos, Some, None, List, [], ◌∷◌, map, codes}
+use Rattle.std.specs.Prelude.{◌≡◌, ℕ, ◌+◌, pos, Some, None, List, [], ◌∷◌, map, sum_by, codes}
 use Rattle.dk_grammar.specs.Lists.{SpellsListOf}
 use Rattle.dk_thrift.specs.Writing.{Writing}
 use Rattle.dk_pqmodel.specs.Shape.{Fields}
@@ -9,6 +9,7 @@ use Rattle.dk_pqmodel.specs.FooterBytes.{SpellsElement, SpellsMetaData, SpellsFo
 use Rattle.dk_pqwrite.specs.declared.chunk.Chunk.{Chunk}
 use Rattle.dk_pqwrite.specs.Chunks.{chunk_view, group_said, path_of_chunk}
 use Rattle.dk_pqwrite.specs.Elements.{fields_said, said_of}
+use Rattle.dk_pqwrite.specs.FooterSizes.{element_size, chunk_size}
 use Rattle.dk_pqwrite.specs.Items.{PutsHeld}
 use Rattle.dk_pqwrite.specs.OverItself.{own_plans, path_of}
 use Rattle.dk_pqwrite.specs.Written.{written_nodes}
@@ -20,9 +21,17 @@ root_of fs = record { name = codes "root"; repetition = None; physical = None; c
 abbrev pub root_said : Fields → ElementFields
 root_said fs = fields_said (codes "root") None None (Some (count_of (written_nodes fs)))
 
+-- how many bytes the elements of the schema have at most, the root among them
+abbrev pub elements_size : Fields → ℕ
+elements_size fs = sum_by element_size (root_said fs ∷ said_of (written_nodes fs))
+
+-- and with them what is said of the chunks
+abbrev pub footer_size : Fields → List Chunk → ℕ
+footer_size fs chunks = elements_size fs + sum_by chunk_size (map path_of_chunk chunks)
+
 -- The field of the schema's elements is added: the root and all that is below it.
 pub record PutsSchema (fs : Fields) (old new : Writing) : Type 0 where
-  pub held : PutsHeld 2 9 (SpellsListOf 12 SpellsElement) (root_said fs ∷ said_of (written_nodes fs)) old new
+  pub held : PutsHeld 2 9 (SpellsListOf 12 SpellsElement) (root_said fs ∷ said_of (written_nodes fs)) (6 + elements_size fs) old new
   pub read : each_of element_of (root_said fs ∷ said_of (written_nodes fs)) ≡ Some (root_of fs ∷ flat_of (written_nodes fs))
 
 -- what the fields of the whole say

@@ -1,5 +1,5 @@
 -- Structs written field by field.
-use Rattle.std.specs.Prelude.{◌≡◌, ◌<◌, ◌^◌, IfSome, ℕ, ℤ, pos, List, [], ◌∷◌, ◌++◌, Option, Some, None}
+use Rattle.std.specs.Prelude.{◌≡◌, ◌<◌, ◌≤◌, ◌^◌, IfSome, ℕ, ℤ, pos, List, [], ◌∷◌, ◌++◌, length, Option, Some, None}
 use Rattle.dk_grammar.specs.Spelling.{whole_bytes, binary_bytes, field_bytes, end_bytes}
 use Rattle.dk_thrift.specs.Writing.{Writing, IsOpen, with_bytes, with_field}
 
@@ -41,16 +41,18 @@ with_items (x ∷ xs) w = with_items xs (with_bytes x.bytes (with_field x.id x.k
 abbrev pub Puts : List Item → Writing → Writing → Type 0
 Puts items old new = (new ≡ with_items items old) × IsOpen new
 
--- Bytes that spell the value are added, and the current struct goes on.
-pub record Adds {A : Type 0} (spells : List ℕ → A → Type 0) (value : A) (old new : Writing) : Type 0 where
+-- Bytes that spell the value, and no more than so many, are added, and the current struct goes on.
+pub record Writes {A : Type 0} (spells : List ℕ → A → Type 0) (value : A) (most : ℕ) (old new : Writing) : Type 0 where
   pub more : List ℕ
   pub written : new ≡ with_bytes more old
   pub spelled : spells more value
+  pub size : length more ≤ most
   pub goes_on : IsOpen new
 
--- A field whose bytes spell the value is added to the current struct, which goes on.
-pub record PutsHeld {A : Type 0} (id kind : ℕ) (spells : List ℕ → A → Type 0) (value : A) (old new : Writing) : Type 0 where
+-- A field whose bytes spell the value, and are no more than so many, is added to the current struct, which goes on.
+pub record PutsHeld {A : Type 0} (id kind : ℕ) (spells : List ℕ → A → Type 0) (value : A) (most : ℕ) (old new : Writing) : Type 0 where
   pub bytes : List ℕ
   pub written : new ≡ with_items (record { id = pos id; kind = kind; bytes = bytes } ∷ []) old
   pub spelled : spells bytes value
+  pub size : length bytes ≤ most
   pub goes_on : IsOpen new

@@ -1,11 +1,12 @@
 //! What a footer says of the chunks of columns, as it is written.
 
-ghost use Rattle.std.specs.Prelude.{◌≡◌, IfOk, OnOk, map, pos, string_bytes};
+ghost use Rattle.std.specs.Prelude.{◌≡◌, ◌+◌, ◌*◌, IfOk, OnOk, length, map, pos, string_bytes, sum_by};
 ghost use Rattle.dk_grammar.specs.Grammar.{SpellsWhole};
 ghost use Rattle.dk_grammar.specs.Lists.{SpellsEach, SpellsListOf};
 ghost use Rattle.dk_pqmodel.specs.FooterBytes.{SpellsChunk, SpellsMeta, SpellsName, SpellsPath};
-ghost use Rattle.dk_pqwrite.specs.Chunks.{IsFit, chunk_said, encodings_of, meta_said};
-ghost use Rattle.dk_pqwrite.specs.Items.{Adds, PutsHeld};
+ghost use Rattle.dk_pqwrite.specs.Chunks.{IsFit, chunk_said, encodings_of, meta_said, path_of_chunk};
+ghost use Rattle.dk_pqwrite.specs.FooterSizes.{chunk_size, name_size};
+ghost use Rattle.dk_pqwrite.specs.Items.{PutsHeld, Writes};
 ghost use Rattle.dk_thrift.specs.Writing.{IsOpen};
 
 use crate::fields::{BINARY, I32, I64, LIST, STRUCT, put_number, put_place};
@@ -42,7 +43,7 @@ pub struct Chunk {
 pub(crate) fn write_chunk(writer: &mut Writer, chunk: &Chunk) -> Result<(), AllocError>
     requires in_struct { IsOpen writer.old }
     requires fit { IsFit chunk.now }
-    ensures { OnOk result (Adds SpellsChunk (chunk_said chunk.now) writer.old writer.new) }
+    ensures { OnOk result (Writes SpellsChunk (chunk_said chunk.now) (chunk_size (path_of_chunk chunk.now)) writer.old writer.new) }
 {
     writer.enter()?;
     put_number(writer, 2, I64, 0)?;
@@ -55,7 +56,7 @@ pub(crate) fn write_chunk(writer: &mut Writer, chunk: &Chunk) -> Result<(), Allo
 fn put_metadata(writer: &mut Writer, chunk: &Chunk) -> Result<(), AllocError>
     requires in_struct { IsOpen writer.old }
     requires fit { IsFit chunk.now }
-    ensures { OnOk result (PutsHeld 3 12 SpellsMeta (meta_said chunk.now) writer.old writer.new) }
+    ensures { OnOk result (PutsHeld 3 12 SpellsMeta (meta_said chunk.now) (88 + sum_by name_size (path_of_chunk chunk.now)) writer.old writer.new) }
 {
     writer.field(3, STRUCT)?;
     write_metadata(writer, chunk)?;
@@ -66,7 +67,7 @@ fn put_metadata(writer: &mut Writer, chunk: &Chunk) -> Result<(), AllocError>
 fn write_metadata(writer: &mut Writer, chunk: &Chunk) -> Result<(), AllocError>
     requires in_struct { IsOpen writer.old }
     requires fit { IsFit chunk.now }
-    ensures { OnOk result (Adds SpellsMeta (meta_said chunk.now) writer.old writer.new) }
+    ensures { OnOk result (Writes SpellsMeta (meta_said chunk.now) (88 + sum_by name_size (path_of_chunk chunk.now)) writer.old writer.new) }
 {
     writer.enter()?;
     put_number(writer, 1, I32, u64::from(chunk.physical))?;
@@ -92,7 +93,7 @@ fn encodings(dictionary: bool) -> &'static [u8]
 /// The field of the encodings.
 fn put_encodings(writer: &mut Writer, encodings: &[u8]) -> Result<(), AllocError>
     requires { IsOpen writer.old }
-    ensures { OnOk result (PutsHeld 2 9 (SpellsListOf 5 SpellsWhole) (map pos encodings.now) writer.old writer.new) }
+    ensures { OnOk result (PutsHeld 2 9 (SpellsListOf 5 SpellsWhole) (map pos encodings.now) (6 + 2 * length encodings.now) writer.old writer.new) }
 {
     let count = count(encodings.len())?;
     writer.field(2, LIST)?;
@@ -104,7 +105,7 @@ fn put_encodings(writer: &mut Writer, encodings: &[u8]) -> Result<(), AllocError
 /// Whole numbers, one behind another.
 fn write_wholes(writer: &mut Writer, numbers: &[u8]) -> Result<(), AllocError>
     requires { IsOpen writer.old }
-    ensures { OnOk result (Adds (SpellsEach SpellsWhole) (map pos numbers.now) writer.old writer.new) }
+    ensures { OnOk result (Writes (SpellsEach SpellsWhole) (map pos numbers.now) (2 * length numbers.now) writer.old writer.new) }
 {
     for number in numbers {
         write_whole(writer, *number)?;
@@ -115,7 +116,7 @@ fn write_wholes(writer: &mut Writer, numbers: &[u8]) -> Result<(), AllocError>
 /// A whole number.
 fn write_whole(writer: &mut Writer, number: u8) -> Result<(), AllocError>
     requires { IsOpen writer.old }
-    ensures { OnOk result (Adds SpellsWhole (pos number) writer.old writer.new) }
+    ensures { OnOk result (Writes SpellsWhole (pos number) 2 writer.old writer.new) }
 {
     writer.whole(i64::from(number))?;
     Ok(())
@@ -124,7 +125,7 @@ fn write_whole(writer: &mut Writer, number: u8) -> Result<(), AllocError>
 /// The field of the path.
 fn put_path(writer: &mut Writer, path: &[String]) -> Result<(), AllocError>
     requires { IsOpen writer.old }
-    ensures { OnOk result (PutsHeld 3 9 SpellsPath (map string_bytes path.now) writer.old writer.new) }
+    ensures { OnOk result (PutsHeld 3 9 SpellsPath (map string_bytes path.now) (6 + sum_by name_size (map string_bytes path.now)) writer.old writer.new) }
 {
     let count = count(path.len())?;
     writer.field(3, LIST)?;
@@ -136,7 +137,7 @@ fn put_path(writer: &mut Writer, path: &[String]) -> Result<(), AllocError>
 /// Names, one behind another.
 fn write_names(writer: &mut Writer, names: &[String]) -> Result<(), AllocError>
     requires { IsOpen writer.old }
-    ensures { OnOk result (Adds (SpellsEach SpellsName) (map string_bytes names.now) writer.old writer.new) }
+    ensures { OnOk result (Writes (SpellsEach SpellsName) (map string_bytes names.now) (sum_by name_size (map string_bytes names.now)) writer.old writer.new) }
 {
     for name in names {
         write_name(writer, name)?;
@@ -147,7 +148,7 @@ fn write_names(writer: &mut Writer, names: &[String]) -> Result<(), AllocError>
 /// A name.
 fn write_name(writer: &mut Writer, name: &str) -> Result<(), AllocError>
     requires { IsOpen writer.old }
-    ensures { OnOk result (Adds SpellsName name.now writer.old writer.new) }
+    ensures { OnOk result (Writes SpellsName name.now (name_size name.now) writer.old writer.new) }
 {
     writer.binary(name.as_bytes())?;
     Ok(())

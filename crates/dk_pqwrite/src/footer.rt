@@ -1,6 +1,6 @@
 //! The footer of a file, and the file around it.
 
-ghost use Rattle.std.specs.Prelude.{◌≡◌, ◌+◌, ◌<◌, ◌^◌, ◌++◌, ℕ, length, All, IfOk, List, OnOk};
+ghost use Rattle.std.specs.Prelude.{◌≡◌, ◌+◌, ◌<◌, ◌≤◌, ◌^◌, ◌++◌, ℕ, length, All, IfOk, List, OnOk};
 ghost use Rattle.dk_grammar.specs.Plain.{little};
 ghost use Rattle.dk_pqmodel.specs.FooterBytes.{SpellsFooter, magic};
 ghost use Rattle.dk_pqmodel.specs.Footer.{count_of};
@@ -8,7 +8,7 @@ ghost use Rattle.dk_pqmodel.specs.NodeView.{fields_of};
 ghost use Rattle.dk_pqmodel.specs.SchemaView.{fields_in};
 ghost use Rattle.dk_pqwrite.specs.Chunks.{IsFit};
 ghost use Rattle.dk_pqwrite.specs.Elements.{fields_said, said_of};
-ghost use Rattle.dk_pqwrite.specs.Footers.{AreColumnsOf, EndsFile, PutsSchema, SpellsFields, footer_of, root_said};
+ghost use Rattle.dk_pqwrite.specs.Footers.{AreColumnsOf, EndsFile, PutsSchema, SpellsFields, footer_of, footer_size, root_said};
 ghost use Rattle.dk_pqwrite.specs.Written.{written_nodes};
 ghost use Rattle.dk_thrift.specs.Writing.{IsOpen};
 
@@ -48,7 +48,8 @@ pub fn end_file(
     requires size { size < 2 ^ 63 }
     requires fit { All IsFit chunks.now }
     requires columns { AreColumnsOf (fields_in schema.now) chunks.now }
-    ensures { OnOk result (EndsFile (footer_of (fields_in schema.now) rows chunks.now) bytes.old.items bytes.new.items) }
+    ensures ended { OnOk result (EndsFile (footer_of (fields_in schema.now) rows chunks.now) bytes.old.items bytes.new.items) }
+    ensures size { OnOk result (length bytes.new.items ≤ length bytes.old.items + 78 + footer_size (fields_in schema.now) chunks.now) }
 {
     let footer = write_footer(alloc, schema, rows, size, chunks)?;
     close(bytes, &footer)?;
@@ -92,7 +93,8 @@ pub fn write_footer(
     requires size { size < 2 ^ 63 }
     requires fit { All IsFit chunks.now }
     requires columns { AreColumnsOf (fields_in schema.now) chunks.now }
-    ensures { IfOk result (λ v. SpellsFooter v.items (footer_of (fields_in schema.now) rows chunks.now)) }
+    ensures spelled { IfOk result (λ v. SpellsFooter v.items (footer_of (fields_in schema.now) rows chunks.now)) }
+    ensures size { IfOk result (λ v. length v.items ≤ 70 + footer_size (fields_in schema.now) chunks.now) }
 {
     let footer = write_fields(alloc, &schema.nodes, rows, size, chunks)?;
     Ok(footer)
@@ -109,7 +111,8 @@ pub(crate) fn write_fields(
     requires rows { rows < 2 ^ 63 }
     requires size { size < 2 ^ 63 }
     requires fit { All IsFit chunks.now }
-    ensures { IfOk result (λ v. SpellsFields (fields_of nodes.now) rows chunks.now v.items) }
+    ensures spelled { IfOk result (λ v. SpellsFields (fields_of nodes.now) rows chunks.now v.items) }
+    ensures size { IfOk result (λ v. length v.items ≤ 70 + footer_size (fields_of nodes.now) chunks.now) }
 {
     let mut writer = Writer::new(alloc);
     put_number(&mut writer, 1, I32, VERSION)?;

@@ -2,7 +2,7 @@
 
 ghost use Rattle.std.specs.Prelude.{◌≡◌, ◌<◌, ◌^◌, None, Some, codes, IfOk, IfSome, OnOk, length, option_map, pos};
 ghost use Rattle.dk_pqmodel.specs.NodeView.{field_of, fields_of, shape_of};
-ghost use Rattle.dk_pqwrite.specs.Elements.{AddsNode, AddsNodes, IsElementOf, children_said, fields_said, said_of};
+ghost use Rattle.dk_pqwrite.specs.Elements.{IsElementOf, WritesNode, WritesNodes, children_said, fields_said, said_of};
 ghost use Rattle.dk_pqwrite.specs.Written.{nodes_at, physical_at, written_as, written_nodes};
 ghost use Rattle.dk_thrift.specs.Writing.{IsOpen};
 
@@ -30,7 +30,7 @@ const REPEATED: u32 = 2;
 #[cycle(elements)]
 pub(crate) fn write_nodes(writer: &mut Writer, nodes: &[Node]) -> Result<(), AllocError>
     requires { IsOpen writer.old }
-    ensures { OnOk result (AddsNodes (written_nodes (fields_of nodes.now)) writer.old writer.new) }
+    ensures { OnOk result (WritesNodes (written_nodes (fields_of nodes.now)) writer.old writer.new) }
 {
     for node in nodes {
         write_node(writer, &node.name, node)?;
@@ -42,7 +42,7 @@ pub(crate) fn write_nodes(writer: &mut Writer, nodes: &[Node]) -> Result<(), All
 #[cycle(elements)]
 fn write_node(writer: &mut Writer, name: &str, node: &Node) -> Result<(), AllocError>
     requires { IsOpen writer.old }
-    ensures { OnOk result (AddsNode (written_as name.now (field_of node.now)) writer.old writer.new) }
+    ensures { OnOk result (WritesNode (written_as name.now (field_of node.now)) writer.old writer.new) }
 {
     let element = element_of(name, node)?;
     write_element(writer, &element)?;
@@ -54,7 +54,7 @@ fn write_node(writer: &mut Writer, name: &str, node: &Node) -> Result<(), AllocE
 #[cycle(elements)]
 fn write_inner(writer: &mut Writer, kind: &NodeKind) -> Result<(), AllocError>
     requires { IsOpen writer.old }
-    ensures { OnOk result (AddsNodes (nodes_at (shape_of kind.now)) writer.old writer.new) }
+    ensures { OnOk result (WritesNodes (nodes_at (shape_of kind.now)) writer.old writer.new) }
 {
     match kind {
         NodeKind::Flag | NodeKind::Int32 | NodeKind::Int64 | NodeKind::Chars => Ok(()),

@@ -2,7 +2,7 @@ use Rattle.std.proofs.Common.{rules, ◌<◌, ◌^◌, length, IsUtf8}
 use Rattle.std.proofs.lemmas.Str.{is_utf8-from_IsUtf8}
 use Rattle.dk_pqwrite.specs.Elements.{element_items}
 use Rattle.dk_pqwrite.specs.Items.{struct_bytes}
-use Rattle.dk_pqwrite.proofs.ElementBytes.{element_spelled, element_written}
+use Rattle.dk_pqwrite.proofs.ElementBytes.{element_short, element_spelled, element_written}
 use Rattle.dk_pqwrite.proofs.Structs.{still_open}
 use Rattle.dk_pqwrite.proofs.element.write_element.Goals as goal
 
@@ -20,5 +20,7 @@ returns c =
       written = written;
       spelled = element_spelled name element.repetition element.physical element.children element.converted (is_utf8-from_IsUtf8 name utf8) short c.in_ok-put_optional-2.ensures.small
           c.in_ok-put_optional.ensures.small c.in_ok-put_optional-3.ensures.small c.in_ok-put_optional-4.ensures.small;
+      size = element_short name element.repetition element.physical element.children element.converted short c.in_ok-put_optional-2.ensures.small c.in_ok-put_optional.ensures.small
+          c.in_ok-put_optional-3.ensures.small c.in_ok-put_optional-4.ensures.small;
       goes_on = still_open _ c.args.writer.now c.end.new.self written c.requires;
     }

@@ -1,8 +1,8 @@
-use Rattle.std.proofs.Common.{rules, ◌≡◌, subst, sym}
+use Rattle.std.proofs.Common.{rules, ◌≡◌, ◌+◌, ◌≤◌, length, subst, sym}
 use Rattle.dk_pqmodel.specs.FooterBytes.{SpellsFooter}
 use Rattle.dk_pqmodel.specs.SchemaView.{fields_in}
-use Rattle.dk_pqwrite.specs.Footers.{footer_of}
-use Rattle.dk_pqwrite.proofs.WholeFooters.{file_ended}
+use Rattle.dk_pqwrite.specs.Footers.{footer_of, footer_size}
+use Rattle.dk_pqwrite.proofs.WholeFooters.{file_ended, file_size}
 use Rattle.dk_pqwrite.proofs.footer.end_file.Goals as goal
 
 pub returns : goal.returns
@@ -11,4 +11,9 @@ returns c =
     let part = c.deref.result.now in
     let begun = c.requires.begun in
     let same : part ≡ c.in_ok-footer.footer.items = search rules in
-    file_ended footer c.args.bytes.now.items part c.close.new.bytes.items begun.0 (subst (λ bytes. SpellsFooter bytes footer) (sym same) c.in_ok-footer.ensures) begun.1 c.in_ok-close.ensures.small c.in_ok-close.ensures.closed
+    let most = footer_size (fields_in c.args.schema.now) c.args.chunks.now in
+    record {
+      ended = file_ended footer c.args.bytes.now.items part c.close.new.bytes.items begun.0 (subst (λ bytes. SpellsFooter bytes footer) (sym same) c.in_ok-footer.ensures.spelled) begun.1
+          c.in_ok-close.ensures.small c.in_ok-close.ensures.closed;
+      size = file_size c.args.bytes.now.items part c.close.new.bytes.items most c.in_ok-close.ensures.closed (subst (λ bytes. length bytes ≤ 70 + most) (sym same) c.in_ok-footer.ensures.size);
+    }

@@ -1,7 +1,7 @@
 use Rattle.std.proofs.Common.{rules, ◌≡◌, ◌<◌, length, get_or, string_bytes, subst}
 use Rattle.dk_pqmodel.specs.NodeView.{field_of}
 use Rattle.dk_pqwrite.specs.Written.{written_as}
-use Rattle.dk_pqwrite.specs.Elements.{AddsNode}
+use Rattle.dk_pqwrite.specs.Elements.{WritesNode}
 use Rattle.dk_pqwrite.proofs.NodeElements.{list_added, map_added, next_node}
 use Rattle.dk_pqwrite.proofs.nodes.+elements.Goals as goal
 
@@ -25,4 +25,4 @@ write_nodes-loop-node-preserved t c =
     let room : c.loop-node.node-index < length c.args.nodes.now = search rules in
     let is : node ≡ get_or c.args.nodes.now c.loop-node.node-index node = search rules in
     next_node c.args.nodes.now c.loop-node.node-index node c.args.writer.now c.loop-node.writer c.write_node.new.writer room is c.loop-node.invariant
-    (subst (λ text. AddsNode (written_as text (field_of node)) c.loop-node.writer c.write_node.new.writer) name c.in_ok-write_node.ensures)
+    (subst (λ text. WritesNode (written_as text (field_of node)) c.loop-node.writer c.write_node.new.writer) name c.in_ok-write_node.ensures)
