@@ -12,6 +12,7 @@ pub mod OwnPaths
 pub mod OwnTree
 pub mod Packing
 pub mod PageSizes
+pub mod SchemaLeaves
 pub mod Structs
 pub mod Uses
 pub mod WholeFooters

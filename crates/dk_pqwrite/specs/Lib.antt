@@ -9,5 +9,6 @@ pub mod HeaderBytes
 pub mod Items
 pub mod OverItself
 pub mod PlainValues
+pub mod SchemaLeaves
 pub mod Written
 pub mod WrittenColumn
