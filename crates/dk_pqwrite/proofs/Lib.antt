@@ -14,6 +14,7 @@ pub mod OwnPaths
 pub mod OwnTree
 pub mod Packing
 pub mod PageSizes
+pub mod SchemaLeaves
 pub mod SchemaSizes
 pub mod Shredded
 pub mod Structs

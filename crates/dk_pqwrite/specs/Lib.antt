@@ -10,6 +10,7 @@ pub mod HeaderBytes
 pub mod Items
 pub mod OverItself
 pub mod PlainValues
+pub mod SchemaLeaves
 pub mod Shredded
 pub mod Writable
 pub mod Written

@@ -13,6 +13,9 @@ mod footer_tests;
 mod group;
 mod header;
 pub mod laws;
+mod leaves;
+#[cfg(test)]
+mod leaves_tests;
 mod levels;
 mod nodes;
 mod page;
