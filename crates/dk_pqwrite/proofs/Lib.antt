@@ -15,3 +15,4 @@ pub mod PageSizes
 pub mod Structs
 pub mod Uses
 pub mod WholeFooters
+pub mod WritingColumns

@@ -9,5 +9,7 @@ pub mod HeaderBytes
 pub mod Items
 pub mod OverItself
 pub mod PlainValues
+pub mod Writable
 pub mod Written
+pub mod WrittenChunk
 pub mod WrittenColumn
