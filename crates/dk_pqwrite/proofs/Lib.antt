@@ -21,3 +21,4 @@ pub mod Structs
 pub mod Suiting
 pub mod Uses
 pub mod WholeFooters
+pub mod WritingColumns

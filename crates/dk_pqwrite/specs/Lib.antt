@@ -14,4 +14,5 @@ pub mod SchemaLeaves
 pub mod Shredded
 pub mod Writable
 pub mod Written
+pub mod WrittenChunk
 pub mod WrittenColumn

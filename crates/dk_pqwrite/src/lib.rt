@@ -21,6 +21,9 @@ mod nodes;
 mod page;
 #[cfg(test)]
 mod page_tests;
+mod pages;
+#[cfg(test)]
+mod pages_tests;
 mod places;
 mod values;
 

@@ -1,0 +1,105 @@
+//! The pages of a column, and the chunk that says where they stand.
+
+ghost use Rattle.std.specs.Prelude.{◌≡◌, ◌<◌, ◌≤◌, [], true, false, IfOk, is_some, length, map, pos, string_bytes};
+ghost use Rattle.dk_pqmodel.specs.ColumnView.{entry_of};
+ghost use Rattle.dk_pqmodel.specs.FilePages.{physical_type};
+ghost use Rattle.dk_pqmodel.specs.Shape.{chars as shape_chars};
+ghost use Rattle.dk_pqwrite.specs.Writable.{IsWritable};
+ghost use Rattle.dk_pqwrite.specs.WrittenChunk.{WritesColumn, has_dictionary};
+ghost use Rattle.dk_pqwrite.specs.WrittenColumn.{column_at, leaf_of};
+
+use crate::chunk::Chunk;
+use crate::column::{LeafColumn, LeafKind};
+use crate::dictionary::dictionary_of;
+use crate::page::{add_coded_page, add_dictionary_page, add_plain_page};
+use dk_pqmodel::Triple;
+use std::alloc::{AllocError, Global};
+
+/// Adds the pages of a column, and answers what a footer says of them: a data page with all triples and, for texts where a dictionary is
+/// asked for, a page with their distinct texts before it.
+pub(crate) fn write_column(
+    alloc: Global,
+    out: &mut Vec<u8>,
+    path: Vec<String>,
+    column: LeafColumn,
+    triples: &[Triple],
+    dictionary: bool,
+) -> Result<Chunk, AllocError>
+    requires begun { 0 < length out.old.items }
+    requires writable { IsWritable (column_at [] column) (map entry_of triples.now) }
+    ensures written { IfOk result (λ chunk. WritesColumn (column_at (map string_bytes path.items) column) (map entry_of triples.now) chunk out.old.items out.new.items) }
+    ensures coded { IfOk result (λ chunk. is_some chunk.dictionary_page ≡ has_dictionary column.kind dictionary) }
+{
+    match column.kind {
+        LeafKind::Chars if dictionary => write_coded(alloc, out, path, column, triples),
+        _ => write_plain(alloc, out, path, column, triples),
+    }
+}
+
+/// Adds a data page whose values are in the encoding PLAIN.
+fn write_plain(
+    alloc: Global,
+    out: &mut Vec<u8>,
+    path: Vec<String>,
+    column: LeafColumn,
+    triples: &[Triple],
+) -> Result<Chunk, AllocError>
+    requires { IsWritable (column_at [] column) (map entry_of triples.now) }
+    ensures written { IfOk result (λ chunk. WritesColumn (column_at (map string_bytes path.items) column) (map entry_of triples.now) chunk out.old.items out.new.items) }
+    ensures plain { IfOk result (λ chunk. is_some chunk.dictionary_page ≡ false) }
+{
+    let first_page = out.len() as u64;
+    add_plain_page(alloc, out, column, triples)?;
+    let end = out.len() as u64;
+    Ok(Chunk {
+        path,
+        physical: physical_type(column.kind),
+        values: triples.len() as u64,
+        size: end - first_page,
+        first_page,
+        dictionary_page: None,
+    })
+}
+
+/// Adds a page with the distinct texts, and a data page whose values are places among them.
+fn write_coded(
+    alloc: Global,
+    out: &mut Vec<u8>,
+    path: Vec<String>,
+    column: LeafColumn,
+    triples: &[Triple],
+) -> Result<Chunk, AllocError>
+    requires begun { 0 < length out.old.items }
+    requires kind { leaf_of column.kind ≡ shape_chars }
+    requires writable { IsWritable (column_at [] column) (map entry_of triples.now) }
+    ensures written { IfOk result (λ chunk. WritesColumn (column_at (map string_bytes path.items) column) (map entry_of triples.now) chunk out.old.items out.new.items) }
+    ensures coded { IfOk result (λ chunk. is_some chunk.dictionary_page ≡ true) }
+{
+    let dictionary = dictionary_of(alloc, triples)?;
+    let dictionary_page = out.len() as u64;
+    add_dictionary_page(alloc, out, dictionary.texts.as_slice())?;
+    let first_page = out.len() as u64;
+    add_coded_page(alloc, out, column, &dictionary, triples)?;
+    let end = out.len() as u64;
+    Ok(Chunk {
+        path,
+        physical: physical_type(column.kind),
+        values: triples.len() as u64,
+        size: end - dictionary_page,
+        first_page,
+        dictionary_page: Some(dictionary_page),
+    })
+}
+
+/// The code of the type that values of this kind are stored as (Apache Parquet, "Types").
+fn physical_type(kind: LeafKind) -> u8
+    ensures code { pos result ≡ physical_type (leaf_of kind) }
+    ensures small { result ≤ 6 }
+{
+    match kind {
+        LeafKind::Flag => 0,
+        LeafKind::Int32 => 1,
+        LeafKind::Int64 => 2,
+        LeafKind::Chars => 6,
+    }
+}
