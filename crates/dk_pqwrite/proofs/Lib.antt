@@ -20,5 +20,7 @@ pub mod Shredded
 pub mod Structs
 pub mod Suiting
 pub mod Uses
+pub mod WholeColumns
+pub mod WholeFiles
 pub mod WholeFooters
 pub mod WritingColumns

@@ -113,10 +113,10 @@ drop_step [] i x room is = absurd (omega arith)
 drop_step (y ∷ ys) zero x room is = ap (λ z. z ∷ ys) (sym is)
 drop_step (y ∷ ys) (suc i) x room is = drop_step ys i x (omega arith) is
 
-drop_next : {A : Type 0} (xs : List A) (i : ℕ) (x : A) → i < length xs → x ≡ get_or xs i x → drop i xs ≡ x ∷ drop (i + 1) xs
+pub drop_next : {A : Type 0} (xs : List A) (i : ℕ) (x : A) → i < length xs → x ≡ get_or xs i x → drop i xs ≡ x ∷ drop (i + 1) xs
 drop_next xs i x room is = rw add-one (drop_step xs i x room is)
 
-drop_past : {A : Type 0} (xs : List A) (i : ℕ) → length xs ≤ i → drop i xs ≡ []
+pub drop_past : {A : Type 0} (xs : List A) (i : ℕ) → length xs ≤ i → drop i xs ≡ []
 drop_past xs i h = grind (arith, drop_all)
 
 none_more : {B : Type 0} (spells : List ℕ → B → Type 0) (w : Writing) → IsOpen w → Writes (SpellsEach spells) [] 0 w w

@@ -16,3 +16,4 @@ pub mod Writable
 pub mod Written
 pub mod WrittenChunk
 pub mod WrittenColumn
+pub mod WrittenColumns

@@ -25,7 +25,9 @@ mod pages;
 #[cfg(test)]
 mod pages_tests;
 mod places;
+mod rows;
 mod values;
 
 pub use chunk::Chunk;
 pub use footer::{end_file, write_footer};
+pub use rows::write_rows;
