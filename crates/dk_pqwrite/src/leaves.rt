@@ -30,8 +30,8 @@ pub(crate) fn leaves_of(alloc: Global, schema: &Schema) -> Result<Vec<SchemaLeaf
     Ok(leaves)
 }
 
-/// Adds the leaves of nodes that stand beside one another, in the group of this path. So many lists and maps are around them, and so many
-/// nodes that may be null, lists and maps above them.
+/// Adds the leaves of nodes that stand beside one another in the group of this path. `rep` is how many lists and maps are around them, and
+/// `def` how many nodes that may be null, lists and maps are above them.
 #[cycle(walk)]
 fn add_nodes<'a>(
     alloc: Global,
@@ -101,7 +101,7 @@ fn add_node<'a>(
     }
 }
 
-/// Adds the leaves of the element of the list of this path.
+/// Adds the leaves of the element of the list of this path. The levels are those inside the list.
 #[cycle(walk)]
 fn add_element<'a>(
     alloc: Global,
@@ -123,7 +123,7 @@ fn add_element<'a>(
     Ok(())
 }
 
-/// Adds the leaves of an entry of the map of this path: its key, and those of its value.
+/// Adds the leaves of an entry of the map of this path: its key, and those of its value. The levels are those inside the map.
 #[cycle(walk)]
 fn add_entry<'a>(
     alloc: Global,
