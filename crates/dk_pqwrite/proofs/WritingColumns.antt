@@ -1,5 +1,5 @@
 -- A column's pages, and the chunk that says where they stand.
-use Rattle.std.proofs.Common.{◌≡◌, ℕ, ◌+◌, ◌*◌, ◌^◌, ◌<◌, ◌≤◌, Option, None, Some, pos, List, [], ◌∷◌, ◌++◌, length, map, vec_len, inl, refl, sym, ap, subst, ◌∙◌, append_assoc, append-nil, arith}
+use Rattle.std.proofs.Common.{◌≡◌, ℕ, ◌+◌, ◌-◌, ◌*◌, ◌^◌, ◌<◌, ◌≤◌, Option, None, Some, pos, List, [], ◌∷◌, ◌++◌, length, map, vec_len, inl, refl, sym, ap, subst, ◌∙◌, append_assoc, append-nil, arith}
 use Rattle.std.specs.Prelude.{Vec}
 use Rattle.std.specs.List.{All}
 use Rattle.std.specs.Option.{unwrap_or}
@@ -55,22 +55,29 @@ is_short v = omega (arith, v.ok.1, v.small)
 
 -- ---- pages that are added
 
-module _ (column : LeafColumn) (entries : Column) (path : Path) (dictionary : Option (List Value)) (old mid new first page : List ℕ) (begun : mid ≡ old ++ first) (ended : new ≡ mid ++ page)
-    (is_first : IsFirst (leaf_of column.kind) dictionary first) (is_data : IsDataV1 (column_at path column) dictionary page entries) where
-  grown : new ≡ old ++ (first ++ page)
-  grown = ended ∙ ap (λ bs. bs ++ page) begun ∙ append_assoc old first page
+-- the chunk says what the pages of a column hold
+pub record Says (column : LeafColumn) (entries : Column) (path : Path) (chunk : Chunk) : Type 0 where
+  pub typed : pos chunk.physical ≡ physical_type (leaf_of column.kind)
+  pub small : chunk.physical ≤ 6
+  pub count : chunk.values ≡ length entries
+  pub few : length entries ≤ 2 ^ 26
+  pub names : path_of_chunk chunk ≡ path
 
-  whole : (behind : List ℕ) → new ++ behind ≡ old ++ (first ++ ((page ++ []) ++ behind))
-  whole behind =
-      ap (λ bs. bs ++ behind) grown ∙ append_assoc old (first ++ page) behind ∙ ap (λ bs. old ++ bs) (append_assoc first page behind)
-      ∙ ap (λ bs. old ++ (first ++ (bs ++ behind))) (sym (append-nil page))
+module _ (column : LeafColumn) (entries : Column) (path : Path) (chunk : Chunk) (says : Says column entries path chunk) where
+  module _ (dictionary : Option (List Value)) (old mid new first page : List ℕ) (begun : mid ≡ old ++ first) (ended : new ≡ mid ++ page) (is_first : IsFirst (leaf_of column.kind) dictionary first)
+      (is_data : IsDataV1 (column_at path column) dictionary page entries) where
+    grown : new ≡ old ++ (first ++ page)
+    grown = ended ∙ ap (λ bs. bs ++ page) begun ∙ append_assoc old first page
 
-  module _ (chunk : Chunk) (typed : pos chunk.physical ≡ physical_type (leaf_of column.kind)) (count : chunk.values ≡ length entries)
-      (begins : length old ≡ unwrap_or chunk.dictionary_page chunk.first_page) where
-    held : (behind : List ℕ) → HasTriples (new ++ behind) (column_at path column) (chunk_view chunk).1 entries
-    held behind = record {
+    whole : (behind : List ℕ) → new ++ behind ≡ old ++ (first ++ ((page ++ []) ++ behind))
+    whole behind =
+        ap (λ bs. bs ++ behind) grown ∙ append_assoc old (first ++ page) behind ∙ ap (λ bs. old ++ bs) (append_assoc first page behind)
+        ∙ ap (λ bs. old ++ (first ++ (bs ++ behind))) (sym (append-nil page))
+
+    held : length old ≡ unwrap_or chunk.dictionary_page chunk.first_page → (behind : List ℕ) → HasTriples (new ++ behind) (column_at path column) (chunk_view chunk).1 entries
+    held begins behind = record {
       plain = refl;
-      typed = typed;
+      typed = says.typed;
       front = old;
       first = first;
       pages = (page, entries) ∷ [];
@@ -81,39 +88,52 @@ module _ (column : LeafColumn) (entries : Column) (path : Path) (dictionary : Op
       entries = is_first;
       read = (inl is_data, tt);
       joined = sym (append-nil entries);
-      count = sym count;
+      count = sym says.count;
     }
 
-    column_written : chunk.first_page ≡ length mid → chunk.size + length old ≡ length new → path_of_chunk chunk ≡ path → IsFit chunk → length first + length page ≤ 220 + column_bytes entries
-        → WritesColumn (column_at path column) entries chunk old new
-    column_written place size names fit small = record {
+    column_written : length old ≡ unwrap_or chunk.dictionary_page chunk.first_page → chunk.first_page ≡ length mid → chunk.size + length old ≡ length new → IsFit chunk
+        → length first + length page ≤ 220 + column_bytes entries → WritesColumn (column_at path column) entries chunk old new
+    column_written begins place size fit small = record {
       part = first ++ page;
       added = grown;
-      held = held;
+      held = held begins;
       ends = record { front = mid; page = page; whole = ended; begins = sym place; dictionary = dictionary; is = is_data };
       bytes = omega (arith, size, ap length grown, length-append old (first ++ page));
-      path = names;
+      path = says.names;
       fit = fit;
       size = omega (arith, small, length-append first page);
     }
 
-module _ (column : LeafColumn) (entries : Column) (path : Path) (chunk : Chunk) (typed : pos chunk.physical ≡ physical_type (leaf_of column.kind)) (count : chunk.values ≡ length entries)
-    (names : path_of_chunk chunk ≡ path) (fit : IsFit chunk) where
-  pub plain_written : (old new : List ℕ)
-      → ((path : Path) → Adds (λ bytes. IsDataV1 (column_at path column) None bytes entries) (133 + 10 * chunk.values + plain_size (values_in entries)) old new)
-      → length old ≡ unwrap_or chunk.dictionary_page chunk.first_page → chunk.first_page ≡ length old → chunk.size + length old ≡ length new
-      → WritesColumn (column_at path column) entries chunk old new
-  plain_written old new page begins place size =
+  pub plain_written : (old new : Vec ℕ Global)
+      → ((path : Path) → Adds (λ bytes. IsDataV1 (column_at path column) None bytes entries) (133 + 10 * chunk.values + plain_size (values_in entries)) old.items new.items)
+      → chunk.first_page ≡ vec_len old → chunk.dictionary_page ≡ None → chunk.size ≡ vec_len new - vec_len old → WritesColumn (column_at path column) entries chunk old.items new.items
+  plain_written old new page place none size =
       let h = page path in
-      column_written column entries path None old old new [] h.part (sym (append-nil old)) h.added refl h.is chunk typed count begins place size names fit (omega (arith, h.size, count, bytes_within entries))
+      let begin : length old.items ≡ chunk.first_page = omega (arith, place, old.ok.0) in
+      let fit : IsFit chunk = record {
+        physical = omega (arith, says.small);
+        values = omega (arith, says.count, says.few);
+        size = omega (arith, size, is_short new);
+        first = omega (arith, place, is_short old);
+        dictionary = rw none tt;
+      } in
+      column_written None old.items old.items new.items [] h.part (sym (append-nil old.items)) h.added refl h.is (rw none begin) (sym begin)
+      (omega (arith, size, grows _ _ old new h, old.ok.0, new.ok.0)) fit (omega (arith, h.size, says.count, bytes_within entries))
 
-  pub coded_written : (old mid new : List ℕ) (texts : List Text) → Adds (λ bytes. IsDictionary shape.chars bytes (map chars texts)) (33 + plain_size (map chars texts)) old mid
-      → ((path : Path) → Adds (λ bytes. IsDataV1 (column_at path column) (Some (map chars texts)) bytes entries) (174 + 15 * chunk.values) mid new)
-      → leaf_of column.kind ≡ shape.chars → plain_size (map chars texts) ≤ plain_size (values_in entries)
-      → length old ≡ unwrap_or chunk.dictionary_page chunk.first_page → chunk.first_page ≡ length mid → chunk.size + length old ≡ length new
-      → WritesColumn (column_at path column) entries chunk old new
-  coded_written old mid new texts first page kind small begins place size =
+  pub coded_written : (old mid new : Vec ℕ Global) (texts : List Text) → leaf_of column.kind ≡ shape.chars → plain_size (map chars texts) ≤ plain_size (values_in entries) → 0 < length old.items
+      → Adds (λ bytes. IsDictionary shape.chars bytes (map chars texts)) (33 + plain_size (map chars texts)) old.items mid.items
+      → ((path : Path) → Adds (λ bytes. IsDataV1 (column_at path column) (Some (map chars texts)) bytes entries) (174 + 15 * chunk.values) mid.items new.items)
+      → chunk.first_page ≡ vec_len mid → chunk.dictionary_page ≡ Some (vec_len old) → chunk.size ≡ vec_len new - vec_len old → WritesColumn (column_at path column) entries chunk old.items new.items
+  coded_written old mid new texts kind small begun first page place there size =
       let h = page path in
       let is_first = subst (λ (k : Leaf). IsDictionary k first.part (map chars texts)) (sym kind) first.is in
-      column_written column entries path (Some (map chars texts)) old mid new first.part h.part first.added h.added is_first h.is chunk typed count begins place size names fit
-      (omega (arith, h.size, first.size, small, count, bytes_within entries))
+      let begin : 0 < vec_len old = omega (arith, begun, old.ok.0) in
+      let fit : IsFit chunk = record {
+        physical = omega (arith, says.small);
+        values = omega (arith, says.count, says.few);
+        size = omega (arith, size, is_short new);
+        first = omega (arith, place, is_short mid);
+        dictionary = rw there (begin, is_short old);
+      } in
+      column_written (Some (map chars texts)) old.items mid.items new.items first.part h.part first.added h.added is_first h.is (rw there (sym old.ok.0)) (omega (arith, place, mid.ok.0))
+      (omega (arith, size, grows _ _ old mid first, grows _ _ mid new h, old.ok.0, new.ok.0)) fit (omega (arith, h.size, first.size, small, says.count, bytes_within entries))

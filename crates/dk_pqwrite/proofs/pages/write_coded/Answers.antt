@@ -1,9 +1,9 @@
-use Rattle.std.proofs.Common.{◌≡◌, ◌-◌, ◌≤◌, Some, [], length, map, string_bytes, refl, sym, ap, arith}
+use Rattle.std.proofs.Common.{◌-◌, Some, [], length, map, string_bytes, refl, sym, ap, arith}
 use Rattle.std.proofs.lemmas.List.{length-map}
 use Rattle.dk_pqmodel.specs.ColumnView.{entry_of}
 use Rattle.dk_pqwrite.specs.declared.chunk.Chunk.{Chunk}
 use Rattle.dk_pqwrite.proofs.Uses.{shown}
-use Rattle.dk_pqwrite.proofs.WritingColumns.{coded_written, distinct_few, distinct_light, distinct_small, grows, is_short}
+use Rattle.dk_pqwrite.proofs.WritingColumns.{coded_written, distinct_few, distinct_light, distinct_small, grows}
 use Rattle.dk_pqwrite.proofs.pages.write_coded.Goals as goal
 
 pub add_dictionary_page-requires-clause-few : goal.add_dictionary_page-requires-clause-few
@@ -36,9 +36,6 @@ returns-clause-written c =
     let entries = map entry_of triples in
     let keys = c.in_ok-dictionary.dictionary.texts.keys in
     let fit = rw c.requires.kind at c.requires.writable.fit in
-    let old = c.args.out.now in
-    let mid = c.add_dictionary_page.new.out in
-    let new = c.add_coded_page.new.out in
     let chunk : Chunk = record {
       path = c.args.path;
       physical = c.physical_type.result;
@@ -47,20 +44,8 @@ returns-clause-written c =
       first_page = c.len-first_page.result;
       dictionary_page = Some c.len-dictionary_page.result;
     } in
-    let many : length entries ≡ length triples = length-map triples entry_of in
-    let begin : c.len-dictionary_page.result ≡ length old.items = omega (arith, c.len-dictionary_page.ensures, old.ok.0) in
-    let middle : c.len-first_page.result ≡ length mid.items = omega (arith, c.len-first_page.ensures, mid.ok.0) in
-    let end : c.len-end.result ≡ length new.items = omega (arith, c.len-end.ensures, new.ok.0) in
-    let first = grows _ _ old mid c.in_ok-add_dictionary_page.ensures in
-    let second = grows _ _ mid new (c.in_ok-add_coded_page.ensures []) in
-    let grown : c.len-dictionary_page.result ≤ c.len-end.result = omega (arith, first, second, c.len-dictionary_page.ensures, c.len-end.ensures) in
-    coded_written c.args.column entries (map string_bytes c.args.path.items) chunk c.physical_type.ensures.code (sym many) refl
-    (record {
-      physical = omega (arith, c.physical_type.ensures.small);
-      values = omega (arith, many, c.requires.writable.few);
-      size = omega (arith, c.len-end.ensures, is_short new);
-      first = omega (arith, c.len-first_page.ensures, is_short mid);
-      dictionary = (omega (arith, begin, c.requires.begun), omega (arith, c.len-dictionary_page.ensures, is_short old));
-    })
-    old.items mid.items new.items (shown keys) (rw c.as_slice.ensures.keys at c.in_ok-add_dictionary_page.ensures) c.in_ok-add_coded_page.ensures c.requires.kind
-    (distinct_small entries keys fit c.in_ok-dictionary.ensures.texts) (sym begin) middle (omega (arith, begin, end, grown))
+    coded_written c.args.column entries (map string_bytes c.args.path.items) chunk
+    (record { typed = c.physical_type.ensures.code; small = c.physical_type.ensures.small; count = sym (length-map triples entry_of); few = c.requires.writable.few; names = refl })
+    c.args.out.now c.add_dictionary_page.new.out c.add_coded_page.new.out (shown keys) c.requires.kind (distinct_small entries keys fit c.in_ok-dictionary.ensures.texts) c.requires.begun
+    (rw c.as_slice.ensures.keys at c.in_ok-add_dictionary_page.ensures) c.in_ok-add_coded_page.ensures c.len-first_page.ensures (ap Some c.len-dictionary_page.ensures)
+    (rw (c.len-end.ensures, c.len-dictionary_page.ensures) refl)
