@@ -1,8 +1,14 @@
 //! Laws of what is read of checkpoints, each without a premise on Parquet files. None of these functions does anything when it runs.
 
+ghost use Rattle.dk_ckread.specs.ParquetExample.{in_one_object, in_parts, parts_in_use, with_sidecar};
+ghost use Rattle.dk_ckread.specs.ParquetFiles.{add_file, head_file};
+ghost use Rattle.dk_ckread.specs.ParquetRows.{add_rows, head_rows};
 ghost use Rattle.dk_lawful.specs.CheckpointLaws.{CheckpointMeansOne, ReadPartsStand, ReadTopsStand};
 ghost use Rattle.dk_lawful.specs.ContentLaws.{ClassicMayBeMade, V2MayBeMade};
+ghost use Rattle.dk_lawful.specs.CheckpointSchema.{read_fields};
+ghost use Rattle.dk_lawful.specs.MoreExamples.{IsLawfulAfter};
 ghost use Rattle.dk_lawful.specs.SegmentLaws.{ReadAgrees};
+ghost use Rattle.dk_pqmodel.specs.FileMeans.{FileMeans};
 
 /// A checkpoint means at most one list of actions, in one object with its sidecars or in parts. So whatever is read of a complete
 /// checkpoint of a lawful log stands for the state at its version, but that it may leave out expired tombstones (Delta Lake's
@@ -24,4 +30,20 @@ pub fn segments_agree()
 pub fn contents_may_be_made()
     ensures classic { ClassicMayBeMade }
     ensures v2 { V2MayBeMade }
+{}
+
+/// Two small Parquet files, byte by byte, and the rows that they mean of the schema of checkpoints: a protocol and a table's metadata,
+/// and a data file (Delta Lake's PROTOCOL.md, "Checkpoint Schema").
+pub fn example_files()
+    ensures head { FileMeans read_fields head_file head_rows }
+    ensures add { FileMeans read_fields add_file add_rows }
+{}
+
+/// Checkpoints of these files come lawfully after the example: in one object; in two parts, each with its share, after which the first
+/// commit may go; and in the form V2 with a sidecar that stands (Delta Lake's PROTOCOL.md, "Checkpoints").
+pub fn checkpoints_in_parquet_come()
+    ensures in_one_object { IsLawfulAfter in_one_object }
+    ensures in_parts { IsLawfulAfter in_parts }
+    ensures parts_in_use { IsLawfulAfter parts_in_use }
+    ensures with_sidecar { IsLawfulAfter with_sidecar }
 {}

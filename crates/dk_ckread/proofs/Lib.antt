@@ -1,0 +1,2 @@
+pub mod FilesMean
+pub mod ParquetExample

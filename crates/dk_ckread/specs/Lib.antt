@@ -1,0 +1,3 @@
+pub mod ParquetExample
+pub mod ParquetFiles
+pub mod ParquetRows
