@@ -24,7 +24,7 @@ const DICTIONARY: [u8; 3] = [0, 3, 8];
 
 /// A chunk of a column, whose pages are written. Sizes and places are in bytes, places from the front of the file.
 #[derive(Drop)]
-pub struct Chunk {
+pub(crate) struct Chunk {
     /// The names from the top of the schema to the column.
     pub path: Vec<String>,
     /// The code of the physical type.

@@ -35,7 +35,7 @@ const CREATED_BY: &str = "deltak";
 ///
 /// The chunks are those of the schema's columns, in order. `rows` is how many rows there are, and `size` how many bytes all pages have. The
 /// only error is want of memory; a footer of 4 GiB or more, or more nodes than the format counts, counts as that.
-pub fn end_file(
+pub(crate) fn end_file(
     alloc: Global,
     bytes: &mut Vec<u8>,
     schema: &Schema,
@@ -82,7 +82,7 @@ fn number(number: u32) -> [u8; 4]
 ///
 /// The chunks are those of the schema's columns, in order. `rows` is how many rows there are, and `size` how many bytes all pages have. The
 /// only error is want of memory; more nodes than the format counts count as that.
-pub fn write_footer(
+pub(crate) fn write_footer(
     alloc: Global,
     schema: &Schema,
     rows: u64,

@@ -3,7 +3,7 @@
 ghost use Rattle.std.specs.Prelude.{All, IfOk};
 ghost use Rattle.dk_pqwrite.specs.Chunks.{IsFit};
 
-use crate::Chunk;
+use crate::chunk::Chunk;
 use crate::footer::{MAGIC, close, write_fields};
 use dk_pqmeta::{FileNode, read_footer};
 use dk_pqmodel::{Node, NodeKind};

@@ -28,6 +28,4 @@ mod places;
 mod rows;
 mod values;
 
-pub use chunk::Chunk;
-pub use footer::{end_file, write_footer};
 pub use rows::write_rows;
