@@ -2,6 +2,7 @@ pub mod AddingLevels
 pub mod AddingPlain
 pub mod BareRows
 pub mod BuildingPages
+pub mod CellCounts
 pub mod ElementBytes
 pub mod FooterStructs
 pub mod HeaderSpelling

@@ -20,6 +20,10 @@ mod page;
 mod page_tests;
 mod places;
 mod values;
+mod writable;
+#[cfg(test)]
+mod writable_tests;
 
 pub use chunk::Chunk;
 pub use footer::{end_file, write_footer};
+pub use writable::can_be_written;
