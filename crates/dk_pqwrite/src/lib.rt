@@ -27,5 +27,9 @@ mod pages_tests;
 mod places;
 mod rows;
 mod values;
+mod writable;
+#[cfg(test)]
+mod writable_tests;
 
 pub use rows::write_rows;
+pub use writable::can_be_written;
