@@ -78,7 +78,7 @@ fn metadata(alloc: Global) -> Result<Node, AllocError> {
 }
 
 /// The fields of checkpoints that are measured.
-fn checkpoint(alloc: Global) -> Result<Schema, Trouble> {
+fn actions(alloc: Global) -> Result<Vec<Node>, AllocError> {
     let mut nodes = Vec::new(alloc);
     nodes.push(action(
         alloc,
@@ -134,6 +134,11 @@ fn checkpoint(alloc: Global) -> Result<Schema, Trouble> {
             ("removed", Holds::Flag),
         ],
     )?)?;
+    Ok(nodes)
+}
+
+fn checkpoint(alloc: Global) -> Result<Schema, Trouble> {
+    let nodes = actions(alloc)?;
     Schema::try_new(nodes).ok_or(Trouble::Usage)
 }
 
