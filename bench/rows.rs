@@ -1,7 +1,9 @@
-//! A plain reader of Parquet files of the kind that checkpoints are, without dependencies: the program beside `dk_bench rows`.
+//! A plain reader and writer of Parquet files of the kind that checkpoints are, without dependencies: the program beside `dk_bench rows`
+//! and `dk_bench write`.
 //!
 //! `rows make FILE ROWS GROUPS PAGES plain|dictionary` writes a file of so many rows, in so many row groups with so many data pages a
-//! column; `rows read FILE TIMES` reads its rows so many times and prints how many they were.
+//! column; `rows read FILE TIMES` reads its rows so many times and prints how many they were; `rows write FILE TIMES plain|dictionary`
+//! reads its rows once, writes them so many times in one row group with one data page a column, and prints how many bytes these were.
 
 use std::collections::HashMap;
 
@@ -19,6 +21,8 @@ enum Kind {
 struct Field {
     name: &'static str,
     kind: Kind,
+    /// How many leaves it has.
+    leaves: usize,
 }
 
 #[derive(Clone)]
@@ -31,22 +35,29 @@ enum Cell {
     List(Vec<Cell>),
 }
 
-enum Value {
+/// The texts are owned where they are read, and those of the rows where they are written.
+enum Value<T> {
     Flag(bool),
     Int(i64),
-    Chars(String),
+    Chars(T),
 }
 
-struct Triple {
+struct Triple<T> {
     rep: u8,
     def: u8,
-    value: Option<Value>,
+    value: Option<Value<T>>,
 }
 
 // ---- the schema of checkpoints
 
 fn field(name: &'static str, kind: Kind) -> Field {
-    Field { name, kind }
+    let leaves = match &kind {
+        Kind::Group(fields) => fields.iter().map(|field| field.leaves).sum(),
+        Kind::List(element) => element.leaves,
+        Kind::Map(value) => 1 + value.leaves,
+        _ => 1,
+    };
+    Field { name, kind, leaves }
 }
 
 fn text(name: &'static str) -> Field {
@@ -124,15 +135,6 @@ fn add_leaf(field: &Field, path: Vec<String>, rep: u8, def: u8, leaves: &mut Vec
             leaves.push(Leaf { path: inner(["key_value", "key"]), physical: 6, rep: rep + 1, def: def + 1 });
             add_leaf(value, inner(["key_value", "value"]), rep + 1, def + 2, leaves);
         }
-    }
-}
-
-fn leaves_in(field: &Field) -> usize {
-    match &field.kind {
-        Kind::Group(fields) => fields.iter().map(leaves_in).sum(),
-        Kind::List(element) => leaves_in(element),
-        Kind::Map(value) => 1 + leaves_in(value),
-        _ => 1,
     }
 }
 
@@ -346,7 +348,7 @@ fn plain_texts(bytes: &[u8], count: usize) -> Vec<String> {
         .collect()
 }
 
-fn read_values(bytes: &[u8], physical: i64, encoding: i64, count: usize, entries: &[String]) -> Vec<Value> {
+fn read_values(bytes: &[u8], physical: i64, encoding: i64, count: usize, entries: &[String]) -> Vec<Value<String>> {
     match (encoding, physical) {
         (0, 0) => (0..count).map(|i| Value::Flag(bytes[i / 8] >> (i % 8) & 1 == 1)).collect(),
         (0, 2) => bytes.chunks_exact(8).take(count).map(|b| Value::Int(i64::from_le_bytes(b.try_into().unwrap()))).collect(),
@@ -366,7 +368,7 @@ fn read_levels(bytes: &mut &[u8], greatest: u8, count: usize) -> Vec<u32> {
     levels
 }
 
-fn read_column(bytes: &[u8], leaf: &Leaf, chunk: &Chunk) -> Vec<Triple> {
+fn read_column(bytes: &[u8], leaf: &Leaf, chunk: &Chunk) -> Vec<Triple<String>> {
     let mut entries = Vec::new();
     let mut at = chunk.first_page;
     if chunk.dictionary_page > 0 {
@@ -393,7 +395,7 @@ fn read_column(bytes: &[u8], leaf: &Leaf, chunk: &Chunk) -> Vec<Triple> {
 
 /// A column, and where it is read from next.
 struct Cursor {
-    triples: Vec<Triple>,
+    triples: Vec<Triple<String>>,
     at: usize,
 }
 
@@ -434,7 +436,7 @@ fn take_value(column: &mut Cursor) -> Cell {
 fn read_group(fields: &[Field], mut columns: &mut [Cursor], def: u8, rep: u8) -> Vec<Cell> {
     let mut cells = Vec::with_capacity(fields.len());
     for field in fields {
-        let (own, others) = columns.split_at_mut(leaves_in(field));
+        let (own, others) = columns.split_at_mut(field.leaves);
         cells.push(read_cell(field, own, def, rep));
         columns = others;
     }
@@ -535,12 +537,12 @@ fn encode(values: &[u32], width: usize) -> Vec<u8> {
     out
 }
 
-fn put(cell: &Cell, field: &Field, columns: &mut [Vec<Triple>], rep: u8, def: u8, lists: u8) {
+fn put<'a>(cell: &'a Cell, field: &Field, columns: &mut [Vec<Triple<&'a str>>], rep: u8, def: u8, lists: u8) {
     match (cell, &field.kind) {
         (Cell::Null, _) => put_nothing(columns, rep, def),
         (Cell::Flag(b), _) => columns[0].push(Triple { rep, def: def + 1, value: Some(Value::Flag(*b)) }),
         (Cell::Int(n), _) => columns[0].push(Triple { rep, def: def + 1, value: Some(Value::Int(*n)) }),
-        (Cell::Chars(t), _) => columns[0].push(Triple { rep, def: def + 1, value: Some(Value::Chars(t.clone())) }),
+        (Cell::Chars(t), _) => columns[0].push(Triple { rep, def: def + 1, value: Some(Value::Chars(t)) }),
         (Cell::Group(cells), Kind::Group(fields)) => put_group(cells, fields, columns, rep, def + 1, lists),
         (Cell::List(cells), _) if cells.is_empty() => put_nothing(columns, rep, def + 1),
         (Cell::List(cells), kind) => {
@@ -550,7 +552,7 @@ fn put(cell: &Cell, field: &Field, columns: &mut [Vec<Triple>], rep: u8, def: u8
                     (Kind::List(element), cell) => put(cell, element, columns, rep, def + 2, lists + 1),
                     (Kind::Map(value), Cell::Group(pair)) => {
                         let Cell::Chars(key) = &pair[0] else { panic!("a key") };
-                        columns[0].push(Triple { rep, def: def + 2, value: Some(Value::Chars(key.clone())) });
+                        columns[0].push(Triple { rep, def: def + 2, value: Some(Value::Chars(key)) });
                         put(&pair[1], value, &mut columns[1..], rep, def + 2, lists + 1);
                     }
                     _ => panic!("a cell of another form"),
@@ -561,15 +563,15 @@ fn put(cell: &Cell, field: &Field, columns: &mut [Vec<Triple>], rep: u8, def: u8
     }
 }
 
-fn put_nothing(columns: &mut [Vec<Triple>], rep: u8, def: u8) {
+fn put_nothing(columns: &mut [Vec<Triple<&str>>], rep: u8, def: u8) {
     for column in columns {
         column.push(Triple { rep, def, value: None });
     }
 }
 
-fn put_group(cells: &[Cell], fields: &[Field], mut columns: &mut [Vec<Triple>], rep: u8, def: u8, lists: u8) {
+fn put_group<'a>(cells: &'a [Cell], fields: &[Field], mut columns: &mut [Vec<Triple<&'a str>>], rep: u8, def: u8, lists: u8) {
     for (cell, field) in cells.iter().zip(fields) {
-        let (own, others) = columns.split_at_mut(leaves_in(field));
+        let (own, others) = columns.split_at_mut(field.leaves);
         put(cell, field, own, rep, def, lists);
         columns = others;
     }
@@ -603,20 +605,26 @@ fn append_levels(levels: Vec<u32>, greatest: u8, out: &mut Vec<u8>) {
     }
 }
 
-fn data_body(leaf: &Leaf, triples: &[Triple], entries: Option<&HashMap<&str, u32>>) -> Vec<u8> {
+/// The texts of a column, the distinct ones, each behind its length, and the place of each among these.
+fn code_texts(triples: &[Triple<&str>]) -> (Vec<u8>, Vec<u32>, usize) {
     let mut body = Vec::new();
-    append_levels(triples.iter().map(|t| u32::from(t.rep)).collect(), leaf.rep, &mut body);
-    append_levels(triples.iter().map(|t| u32::from(t.def)).collect(), leaf.def, &mut body);
-    let values = triples.iter().filter_map(|t| t.value.as_ref());
-    if let Some(entries) = entries {
-        let indices: Vec<u32> = values.map(|v| if let Value::Chars(t) = v { entries[t.as_str()] } else { panic!("no text") }).collect();
-        let width = width_of(entries.len().saturating_sub(1) as u32);
-        body.push(width as u8);
-        body.extend(encode(&indices, width));
-        return body;
+    let mut places = Vec::new();
+    let mut entries: HashMap<&str, u32> = HashMap::new();
+    for triple in triples {
+        if let Some(Value::Chars(text)) = triple.value {
+            let next = entries.len() as u32;
+            places.push(*entries.entry(text).or_insert_with(|| {
+                append_text(text, &mut body);
+                next
+            }));
+        }
     }
+    (body, places, entries.len())
+}
+
+fn append_values(triples: &[Triple<&str>], body: &mut Vec<u8>) {
     let mut bits = 0;
-    for value in values {
+    for value in triples.iter().filter_map(|t| t.value.as_ref()) {
         match value {
             Value::Flag(b) => {
                 if bits % 8 == 0 {
@@ -626,34 +634,36 @@ fn data_body(leaf: &Leaf, triples: &[Triple], entries: Option<&HashMap<&str, u32
                 bits += 1;
             }
             Value::Int(n) => body.extend(n.to_le_bytes()),
-            Value::Chars(t) => append_text(t, &mut body),
+            Value::Chars(t) => append_text(t, body),
         }
     }
-    body
 }
 
 /// Adds a column's pages, and gives its chunk.
-fn append_column(leaf: &Leaf, triples: &[Triple], pages: usize, dictionary: bool, out: &mut Vec<u8>) -> Chunk {
+fn append_column(leaf: &Leaf, triples: &[Triple<&str>], pages: usize, dictionary: bool, out: &mut Vec<u8>) -> Chunk {
     let mut chunk = Chunk { path: leaf.path.clone(), values: triples.len(), first_page: 0, dictionary_page: 0 };
-    let mut entries: HashMap<&str, u32> = HashMap::new();
-    if dictionary && leaf.physical == 6 {
-        let mut body = Vec::new();
-        for triple in triples {
-            if let Some(Value::Chars(t)) = &triple.value {
-                let next = entries.len() as u32;
-                entries.entry(t).or_insert_with(|| {
-                    append_text(t, &mut body);
-                    next
-                });
-            }
-        }
+    let (mut places, mut width) = (Vec::new(), 0);
+    let coded = dictionary && leaf.physical == 6;
+    if coded {
+        let (body, all, entries) = code_texts(triples);
+        (places, width) = (all, width_of(entries.saturating_sub(1) as u32));
         chunk.dictionary_page = out.len();
-        append_page(2, 4, entries.len(), 0, &body, out);
+        append_page(2, 4, entries, 0, &body, out);
     }
     chunk.first_page = out.len();
+    let mut left = places.as_slice();
     for page in triples.chunks(triples.len().div_ceil(pages)) {
-        let coded = chunk.dictionary_page > 0;
-        let body = data_body(leaf, page, coded.then_some(&entries));
+        let mut body = Vec::new();
+        append_levels(page.iter().map(|t| u32::from(t.rep)).collect(), leaf.rep, &mut body);
+        append_levels(page.iter().map(|t| u32::from(t.def)).collect(), leaf.def, &mut body);
+        if coded {
+            let (own, later) = left.split_at(page.iter().filter(|t| t.value.is_some()).count());
+            body.push(width as u8);
+            body.extend(encode(own, width));
+            left = later;
+        } else {
+            append_values(page, &mut body);
+        }
         append_page(0, 2, page.len(), if coded { 8 } else { 0 }, &body, out);
     }
     chunk
@@ -729,7 +739,7 @@ fn write_rows(rows: &[Vec<Cell>], groups: usize, pages: usize, dictionary: bool)
     let mut heads = Vec::new();
     let mut count = 0;
     for rows in rows.chunks(rows.len().div_ceil(groups)) {
-        let mut columns: Vec<Vec<Triple>> = leaves.iter().map(|_| Vec::new()).collect();
+        let mut columns: Vec<Vec<Triple<&str>>> = leaves.iter().map(|_| Vec::new()).collect();
         for row in rows {
             put_group(row, &fields, &mut columns, 0, 0, 0);
         }
@@ -825,6 +835,18 @@ fn main() {
             }
             println!("{total}");
         }
-        _ => panic!("rows make FILE ROWS GROUPS PAGES plain|dictionary, or rows read FILE TIMES"),
+        ["write", file, times, how] => {
+            let bytes = std::fs::read(file).unwrap();
+            let fields = schema();
+            let mut leaves = Vec::new();
+            add_leaves(&fields, &[], 0, 0, &mut leaves);
+            let rows = read_rows(&bytes, &fields, &leaves);
+            let mut total = 0;
+            for _ in 0..times.parse().unwrap() {
+                total += write_rows(&rows, 1, 1, how == "dictionary").len();
+            }
+            println!("{total}");
+        }
+        _ => panic!("rows make FILE ROWS GROUPS PAGES plain|dictionary, rows read FILE TIMES, or rows write FILE TIMES plain|dictionary"),
     }
 }

@@ -1,7 +1,7 @@
 //! The words, and the calls that they name.
 
 use crate::conflicts::find_conflicts;
-use crate::rows::read_files;
+use crate::rows::{read_files, rewrite, write_files};
 use dk_hybrid::{HybridFault, decode};
 use dk_model::LineFault;
 use dk_pages::next_page;
@@ -22,6 +22,8 @@ pub(crate) enum Trouble {
     Runs(HybridFault),
     /// The bytes have no footer of a Parquet file, or no pages.
     Parquet(PqFault),
+    /// The rows can't be written.
+    Unwritable,
     /// A line of the text is no action.
     Line(LineFault),
     /// There is no memory for the call.
@@ -131,6 +133,18 @@ fn read_pages(bytes: &[u8], wanted: &Wanted) -> Result<u64, Trouble> {
     Ok(total)
 }
 
+/// Puts the file that its rows are written as in its place, and counts the bytes.
+fn replace(
+    rt: &HostRuntime,
+    bytes: &[u8],
+    dictionary: bool,
+    wanted: &Wanted,
+) -> Result<u64, Trouble> {
+    let written = rewrite(rt.alloc(), bytes, dictionary)?;
+    fs::write(rt, wanted.file.as_str(), written.as_slice())?;
+    Ok(written.len() as u64)
+}
+
 fn try_call(rt: &HostRuntime) -> Result<(), Trouble> {
     let wanted = read_words(rt)?;
     let bytes = fs::read(rt, wanted.file.as_str())?;
@@ -139,6 +153,10 @@ fn try_call(rt: &HostRuntime) -> Result<(), Trouble> {
         "footer" => read_footers(rt.alloc(), &bytes, &wanted)?,
         "pages" => read_pages(&bytes, &wanted)?,
         "rows" => read_files(rt.alloc(), &bytes, wanted.times)?,
+        "write" => write_files(rt.alloc(), &bytes, false, wanted.times)?,
+        "write_coded" => write_files(rt.alloc(), &bytes, true, wanted.times)?,
+        "rewrite" => replace(rt, &bytes, false, &wanted)?,
+        "rewrite_coded" => replace(rt, &bytes, true, &wanted)?,
         "conflicts" => find_conflicts(rt.alloc(), &bytes, wanted.count, wanted.times)?,
         _ => return Err(Trouble::Usage),
     };

@@ -1,8 +1,15 @@
 //! Rows of files that look like checkpoints.
 
+ghost use Rattle.std.specs.Prelude.{◌≤◌, IfOk};
+ghost use Rattle.dk_pqmodel.specs.Fits.{Fit};
+ghost use Rattle.dk_pqmodel.specs.RowView.{rows_of};
+ghost use Rattle.dk_pqmodel.specs.SchemaView.{fields_in};
+ghost use Rattle.dk_pqmodel.specs.Weight.{most_weight, weight};
+
 use crate::calls::Trouble;
-use dk_pqmodel::{Node, NodeKind, Schema};
+use dk_pqmodel::{Node, NodeKind, Row, Schema};
 use dk_pqread::read_rows;
+use dk_pqwrite::{can_be_written, write_rows};
 use std::alloc::{AllocError, Global};
 
 /// What a field of an action holds.
@@ -71,7 +78,7 @@ fn metadata(alloc: Global) -> Result<Node, AllocError> {
 }
 
 /// The fields of checkpoints that are measured.
-fn checkpoint(alloc: Global) -> Result<Option<Schema>, AllocError> {
+fn actions(alloc: Global) -> Result<Vec<Node>, AllocError> {
     let mut nodes = Vec::new(alloc);
     nodes.push(action(
         alloc,
@@ -127,18 +134,59 @@ fn checkpoint(alloc: Global) -> Result<Option<Schema>, AllocError> {
             ("removed", Holds::Flag),
         ],
     )?)?;
-    Ok(Schema::try_new(nodes))
+    Ok(nodes)
+}
+
+fn checkpoint(alloc: Global) -> Result<Schema, Trouble> {
+    let nodes = actions(alloc)?;
+    Schema::try_new(nodes).ok_or(Trouble::Usage)
 }
 
 /// Reads the file's rows so many times, and counts them.
 pub(crate) fn read_files(alloc: Global, bytes: &[u8], times: u32) -> Result<u64, Trouble> {
-    let Some(wanted) = checkpoint(alloc)? else {
-        return Err(Trouble::Usage);
-    };
+    let schema = checkpoint(alloc)?;
     let mut total = 0u64;
     for _ in 0..times {
-        let rows = read_rows(alloc, bytes, &wanted)?;
+        let rows = read_rows(alloc, bytes, &schema)?;
         total = total.wrapping_add(rows.len() as u64);
     }
     Ok(total)
+}
+
+/// The file's rows, where they can be written.
+fn writable_rows(alloc: Global, bytes: &[u8], schema: &Schema) -> Result<Vec<Row>, Trouble>
+    ensures fit { IfOk result (λ v. Fit (fields_in schema.now) (rows_of v.items)) }
+    ensures light { IfOk result (λ v. weight (rows_of v.items) ≤ most_weight) }
+{
+    let rows = read_rows(alloc, bytes, schema)?;
+    if can_be_written(schema, &rows) {
+        Ok(rows)
+    } else {
+        Err(Trouble::Unwritable)
+    }
+}
+
+/// Writes the file's rows so many times, and counts the bytes.
+pub(crate) fn write_files(
+    alloc: Global,
+    bytes: &[u8],
+    dictionary: bool,
+    times: u32,
+) -> Result<u64, Trouble> {
+    let schema = checkpoint(alloc)?;
+    let rows = writable_rows(alloc, bytes, &schema)?;
+    let mut total = 0u64;
+    for _ in 0..times {
+        let written = write_rows(alloc, &schema, &rows, dictionary)?;
+        total = total.wrapping_add(written.len() as u64);
+    }
+    Ok(total)
+}
+
+/// The file that its rows are written as.
+pub(crate) fn rewrite(alloc: Global, bytes: &[u8], dictionary: bool) -> Result<Vec<u8>, Trouble> {
+    let schema = checkpoint(alloc)?;
+    let rows = writable_rows(alloc, bytes, &schema)?;
+    let written = write_rows(alloc, &schema, &rows, dictionary)?;
+    Ok(written)
 }
