@@ -116,7 +116,7 @@ pub fn read_each(
         (each_at (fields_of nodes.now) levels.repetition levels.definition levels.lists place (fronts rest.old)) }
     ensures next { IfOk result (λ v. v.1 ≡ place + width_of (fields_of nodes.now)) }
 {
-    let mut cells = Vec::new(alloc);
+    let mut cells = Vec::with_capacity(alloc, nodes.len())?;
     let mut next = place;
     for node in nodes {
         let (cell, after) = read_cell(node, alloc, rest, next, levels)?;
@@ -234,7 +234,7 @@ fn read_element(
 fn pair(alloc: Global, key: Cell, value: Cell) -> Result<Vec<Cell>, AllocError>
     ensures { IfOk result (λ v. v.items ≡ key ∷ value ∷ []) }
 {
-    let mut cells = Vec::new(alloc);
+    let mut cells = Vec::with_capacity(alloc, 2)?;
     cells.push(key)?;
     cells.push(value)?;
     Ok(cells)

@@ -1,6 +1,6 @@
 //! Values in the encoding PLAIN (Apache Parquet, "Plain").
 
-ghost use Rattle.std.specs.Prelude.{◌≡◌, ◌++◌, OnOk, map, take};
+ghost use Rattle.std.specs.Prelude.{◌≡◌, ◌*◌, ◌++◌, ◌≤◌, OnOk, length, map, take};
 ghost use Rattle.dk_grammar.specs.Digits.{digits_of};
 ghost use Rattle.dk_pqread.specs.Gives.{Gives};
 ghost use Rattle.dk_pqmodel.specs.ColumnView.{value_of};
@@ -23,7 +23,7 @@ pub(crate) fn plain_values<'a>(
 ) -> Result<(Vec<Value>, &'a [u8]), PqFault>
     ensures { Gives (λ x. (map value_of x.0.items, x.1.now)) result (plains_at (leaf_of kind) count bytes.now) }
 {
-    let mut values = Vec::new(alloc);
+    let mut values = Vec::with_capacity(alloc, room(bytes, count))?;
     let mut rest = bytes;
     for _ in 0..count {
         let (value, behind) = plain_value(alloc, kind, rest)?;
@@ -31,6 +31,15 @@ pub(crate) fn plain_values<'a>(
         rest = behind;
     }
     Ok((values, rest))
+}
+
+/// For how many values room is made: a number or a text has four bytes at least, so for no more than the bytes can hold, whatever
+/// count is claimed.
+fn room(bytes: &[u8], count: usize) -> usize
+    ensures claimed { result ≤ count }
+    ensures held { 4 * result ≤ length bytes.now }
+{
+    count.min(bytes.len() / 4)
 }
 
 /// The number or text at the front, and the bytes behind it.
@@ -76,7 +85,7 @@ pub(crate) fn plain_flags(alloc: Global, bytes: &[u8], count: usize) -> Result<V
     if count > bytes.len().saturating_mul(8) {
         return Err(PqFault::Broken);
     }
-    let mut flags = Vec::new(alloc);
+    let mut flags = Vec::with_capacity(alloc, count)?;
     for byte in bytes {
         let missing = count - flags.len();
         push_bits(&mut flags, *byte, missing)?;

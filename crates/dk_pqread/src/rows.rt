@@ -117,6 +117,7 @@ fn add_widened(
 ) -> Result<(), PqFault>
     ensures { Gives (λ _. rows_of rows.new.items) result (cells_then (rows_of rows.old.items) (rows_widened (plans_of plans.now) (rows_of own.items))) }
 {
+    rows.reserve(own.len())?;
     for row in own {
         let cells = widen_each(plans, alloc, row.cells)?;
         rows.push(Row { cells })?;

@@ -78,7 +78,7 @@ fn read_flag_runs(
 fn flags_of(alloc: Global, bits: &[u32]) -> Result<Vec<Value>, PqFault>
     ensures { Gives (λ v. map value_of v.items) result (each_of flag_at bits.now) }
 {
-    let mut flags = Vec::new(alloc);
+    let mut flags = Vec::with_capacity(alloc, bits.len())?;
     for bit in bits {
         if *bit > 1 {
             return Err(PqFault::Broken);
@@ -122,7 +122,7 @@ fn read_indices(
 fn pick(alloc: Global, entries: &[Value], indices: &[u32]) -> Result<Vec<Value>, PqFault>
     ensures { Gives (λ v. map value_of v.items) result (each_of (λ index. slice_get (map value_of entries.now) index) indices.now) }
 {
-    let mut values = Vec::new(alloc);
+    let mut values = Vec::with_capacity(alloc, indices.len())?;
     for index in indices {
         let Some(entry) = entries.get(*index as usize) else {
             return Err(PqFault::Broken);

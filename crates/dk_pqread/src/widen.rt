@@ -68,7 +68,7 @@ pub(crate) fn widen_each(
     ensures { Gives (λ v. cells_of v.items) result (widened_each (plans_of plans.now) (cells_of cells.items)) }
 {
     let mut own = cells.into_iter();
-    let mut wide = Vec::new(alloc);
+    let mut wide = Vec::with_capacity(alloc, plans.len())?;
     for plan in plans {
         wide.push(widen_next(plan, alloc, &mut own)?)?;
     }
@@ -95,7 +95,7 @@ fn widen_next(plan: &Plan, alloc: Global, own: &mut IntoIter<Cell>) -> Result<Ce
 fn widen_all(plan: &Plan, alloc: Global, cells: Vec<Cell>) -> Result<Vec<Cell>, PqFault>
     ensures { Gives (λ v. cells_of v.items) result (turned_all (widened (plan_of plan.now)) (cells_of cells.items)) }
 {
-    let mut wide = Vec::new(alloc);
+    let mut wide = Vec::with_capacity(alloc, cells.len())?;
     for cell in cells {
         wide.push(widen(plan, alloc, cell)?)?;
     }
@@ -107,7 +107,7 @@ fn widen_all(plan: &Plan, alloc: Global, cells: Vec<Cell>) -> Result<Vec<Cell>, 
 fn widen_entries(value: &Plan, alloc: Global, cells: Vec<Cell>) -> Result<Vec<Cell>, PqFault>
     ensures { Gives (λ v. cells_of v.items) result (turned_all (pair_of (widened (plan_of value.now))) (cells_of cells.items)) }
 {
-    let mut wide = Vec::new(alloc);
+    let mut wide = Vec::with_capacity(alloc, cells.len())?;
     for cell in cells {
         wide.push(widen_entry(value, alloc, cell)?)?;
     }
@@ -166,7 +166,7 @@ fn next_cell(cells: &mut IntoIter<Cell>) -> Option<Cell>
 fn pair(alloc: Global, key: Cell, value: Cell) -> Result<Cell, AllocError>
     ensures { IfOk result (λ c. datum_of c ≡ group (one_cell (datum_of key) (one_cell (datum_of value) no_cells))) }
 {
-    let mut cells = Vec::new(alloc);
+    let mut cells = Vec::with_capacity(alloc, 2)?;
     cells.push(key)?;
     cells.push(value)?;
     Ok(Cell::Group(cells))

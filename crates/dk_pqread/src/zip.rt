@@ -1,6 +1,6 @@
 //! Triples of levels and values.
 
-ghost use Rattle.std.specs.Prelude.{◌≡◌, ◌<◌, Some, length, map, slice_get};
+ghost use Rattle.std.specs.Prelude.{◌≡◌, ◌<◌, MatchOption, Some, length, map, slice_get, vec_len};
 ghost use Rattle.dk_pqread.specs.Gives.{Gives};
 ghost use Rattle.dk_pqmodel.specs.ColumnView.{column_of, entry_of, value_of};
 ghost use Rattle.dk_pqread.specs.Meanings.{levels_of, one_triple, triples_then, zipped};
@@ -25,6 +25,7 @@ pub(crate) fn add_triples(
     ensures { Gives (λ _. column_of triples.new) result
         (triples_then (column_of triples.old) (zipped column.now.rep column.now.def (levels_of count repetitions.now) (levels_of count definitions.now) (map value_of values.items))) }
 {
+    triples.reserve(room(definitions, &values))?;
     let mut values = values.into_iter();
     for place in 0..count {
         let repetition = level(repetitions, place, count);
@@ -35,6 +36,17 @@ pub(crate) fn add_triples(
         return Err(PqFault::Broken);
     }
     Ok(())
+}
+
+/// For how many triples room is made: as many as there are levels, or values where no levels are kept. What a page claims alone
+/// makes no room.
+fn room(definitions: &Option<Vec<u32>>, values: &[Value]) -> usize
+    ensures { MatchOption definitions.now (result ≡ length values.now) (λ levels. result ≡ vec_len levels) }
+{
+    match definitions {
+        Some(levels) => levels.len(),
+        None => values.len(),
+    }
 }
 
 /// The triple of two levels.

@@ -8,7 +8,7 @@ use Rattle.dk_pqread.proofs.plain.plain_values.Goals as goal
 
 pub returns-in_err-value : goal.returns-in_err-value
 returns-in_err-value c =
-    let p = err_from_is_err_and c.from_residual.result c.from_residual.ensures.1 in
+    let p = err_from_is_err_and c.from_residual-in_err-value.result c.from_residual-in_err-value.ensures.1 in
     rw (p.1, p.2)
     (value_missing (leaf_of c.args.kind) c.args.count c.loop.counter (map value_of c.loop.values.items) c.loop.rest.now _ (omega arith) c.loop.invariant c.in_err-value.field-0.0 c.in_err-value.ensures)
 

@@ -16,4 +16,4 @@ loop-row-preserved c =
 pub returns : goal.returns
 returns c =
     let none : into_iter_items c.loop-row.row-iterator ≡ [] = none_left _ (sym c.loop-row.invariant.1 ∙ c.in-None.ensures.steps.0) in
-    turned_done (rows_of c.loop-row.rows.items) _ (rw none at c.loop-row.invariant.0)
+    rw c.reserve.ensures.items at (turned_done (rows_of c.loop-row.rows.items) _ (rw none at c.loop-row.invariant.0))

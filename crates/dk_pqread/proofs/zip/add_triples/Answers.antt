@@ -9,11 +9,12 @@ use Rattle.dk_pqread.proofs.zip.add_triples.Goals as goal
 
 pub returns-in_err-triple : goal.returns-in_err-triple
 returns-in_err-triple c =
-    let p = err_from_is_err_and c.from_residual.result c.from_residual.ensures.1 in
+    let p = err_from_is_err_and c.from_residual-in_err-triple.result c.from_residual-in_err-triple.ensures.1 in
     rw (p.1, p.2)
+    (rw c.reserve.ensures.items at
     (triple_fails c.args.column.now.rep c.args.column.now.def (levels_of c.args.count c.args.repetitions.now) (levels_of c.args.count c.args.definitions.now) c.loop-place.place
     (column_of c.loop-place.triples) (map value_of (into_iter_items c.loop-place.values)) _ c.loop-place.invariant c.level-repetition.result c.level-definition.result c.level-repetition.ensures
-    c.level-definition.ensures c.in_err-triple.field-0.0 c.in_err-triple.ensures)
+    c.level-definition.ensures c.in_err-triple.field-0.0 c.in_err-triple.ensures))
 
 pub loop-place-preserved : goal.loop-place-preserved
 loop-place-preserved c =
