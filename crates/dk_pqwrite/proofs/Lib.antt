@@ -3,6 +3,7 @@ pub mod AddingPlain
 pub mod BareColumns
 pub mod BareRows
 pub mod BuildingPages
+pub mod CellCounts
 pub mod ElementBytes
 pub mod FooterStructs
 pub mod HeaderSpelling

@@ -27,7 +27,11 @@ mod pages_tests;
 mod places;
 mod rows;
 mod values;
+mod writable;
+#[cfg(test)]
+mod writable_tests;
 
 pub use chunk::Chunk;
 pub use footer::{end_file, write_footer};
 pub use rows::write_rows;
+pub use writable::can_be_written;
