@@ -26,6 +26,8 @@ mod pages;
 mod pages_tests;
 mod places;
 mod rows;
+#[cfg(test)]
+mod rows_tests;
 mod values;
 mod writable;
 #[cfg(test)]
