@@ -1,4 +1,4 @@
-//! Whole files, byte by byte. The bytes were made by hand from the format's structs.
+//! Whole files, byte by byte. The bytes were made from the format's structs, by hand and by a script of its own.
 
 use crate::column::LeafKind;
 use crate::{can_be_written, write_rows};
