@@ -19,6 +19,7 @@ pub mod Gathering
 pub mod Going
 pub mod Groups
 pub mod Laying
+pub mod InPlace
 pub mod LevelLaws
 pub mod OneList
 pub mod Opening
