@@ -597,8 +597,9 @@ fn append_text(text: &str, out: &mut Vec<u8>) {
     out.extend(text.as_bytes());
 }
 
-fn append_levels(levels: Vec<u32>, greatest: u8, out: &mut Vec<u8>) {
+fn append_levels(levels: impl Iterator<Item = u8>, greatest: u8, out: &mut Vec<u8>) {
     if greatest > 0 {
+        let levels: Vec<u32> = levels.map(u32::from).collect();
         let runs = encode(&levels, width_of(u32::from(greatest)));
         out.extend((runs.len() as u32).to_le_bytes());
         out.extend(runs);
@@ -654,8 +655,8 @@ fn append_column(leaf: &Leaf, triples: &[Triple<&str>], pages: usize, dictionary
     let mut left = places.as_slice();
     for page in triples.chunks(triples.len().div_ceil(pages)) {
         let mut body = Vec::new();
-        append_levels(page.iter().map(|t| u32::from(t.rep)).collect(), leaf.rep, &mut body);
-        append_levels(page.iter().map(|t| u32::from(t.def)).collect(), leaf.def, &mut body);
+        append_levels(page.iter().map(|t| t.rep), leaf.rep, &mut body);
+        append_levels(page.iter().map(|t| t.def), leaf.def, &mut body);
         if coded {
             let (own, later) = left.split_at(page.iter().filter(|t| t.value.is_some()).count());
             body.push(width as u8);
@@ -739,7 +740,7 @@ fn write_rows(rows: &[Vec<Cell>], groups: usize, pages: usize, dictionary: bool)
     let mut heads = Vec::new();
     let mut count = 0;
     for rows in rows.chunks(rows.len().div_ceil(groups)) {
-        let mut columns: Vec<Vec<Triple<&str>>> = leaves.iter().map(|_| Vec::new()).collect();
+        let mut columns: Vec<Vec<Triple<&str>>> = leaves.iter().map(|_| Vec::with_capacity(rows.len())).collect();
         for row in rows {
             put_group(row, &fields, &mut columns, 0, 0, 0);
         }
