@@ -1,6 +1,6 @@
-//! Wanted cells from those that are read. Cells are moved and not copied.
+//! Wanted cells from those that are read. Cells are moved and not copied; those of a list take the place of those that are read.
 
-ghost use Rattle.std.specs.Prelude.{◌≡◌, IfOk, option_map};
+ghost use Rattle.std.specs.Prelude.{◌≡◌, ◌<◌, IfOk, length, option_map, slice_index_or, slice_set};
 ghost use Rattle.std.specs.Vec.Iter.{into_iter_items};
 ghost use Rattle.dk_pqmodel.specs.Datum.{group, one_cell, no_cells};
 ghost use Rattle.dk_pqmodel.specs.Laid.{in_group, in_list, is_missing, pair_of, turned_all, widened, widened_each};
@@ -12,6 +12,7 @@ ghost use Rattle.dk_pqread.specs.PlanView.{plan_of, plans_of};
 use crate::plan::{Plan, is_missing};
 use dk_pqmodel::{Cell, PqFault};
 use std::alloc::{AllocError, Global};
+use std::mem;
 use std::vec::IntoIter;
 
 /// The wanted cell. `Broken` comes exactly where a map in it has a null key.
@@ -43,7 +44,10 @@ fn widen_list(plan: &Plan, alloc: Global, cell: Cell) -> Result<Cell, PqFault>
     ensures { Gives datum_of result (in_list (turned_all (widened (plan_of plan.now))) (datum_of cell)) }
 {
     match cell {
-        Cell::List(cells) => Ok(Cell::List(widen_all(plan, alloc, cells)?)),
+        Cell::List(mut cells) => {
+            widen_all(plan, alloc, &mut cells)?;
+            Ok(Cell::List(cells))
+        }
         other => Ok(other),
     }
 }
@@ -53,7 +57,10 @@ fn widen_map(value: &Plan, alloc: Global, cell: Cell) -> Result<Cell, PqFault>
     ensures { Gives datum_of result (in_list (turned_all (pair_of (widened (plan_of value.now)))) (datum_of cell)) }
 {
     match cell {
-        Cell::List(cells) => Ok(Cell::List(widen_entries(value, alloc, cells)?)),
+        Cell::List(mut cells) => {
+            widen_entries(value, alloc, &mut cells)?;
+            Ok(Cell::List(cells))
+        }
         other => Ok(other),
     }
 }
@@ -90,28 +97,28 @@ fn widen_next(plan: &Plan, alloc: Global, own: &mut IntoIter<Cell>) -> Result<Ce
     widen(plan, alloc, cell)
 }
 
-/// The elements of a list.
+/// The elements of a list, each in the place of the one that is read.
 #[cycle(widen)]
-fn widen_all(plan: &Plan, alloc: Global, cells: Vec<Cell>) -> Result<Vec<Cell>, PqFault>
-    ensures { Gives (λ v. cells_of v.items) result (turned_all (widened (plan_of plan.now)) (cells_of cells.items)) }
+fn widen_all(plan: &Plan, alloc: Global, cells: &mut [Cell]) -> Result<(), PqFault>
+    ensures { Gives (λ _. cells_of cells.new) result (turned_all (widened (plan_of plan.now)) (cells_of cells.old)) }
 {
-    let mut wide = Vec::with_capacity(alloc, cells.len())?;
-    for cell in cells {
-        wide.push(widen(plan, alloc, cell)?)?;
+    for place in 0..cells.len() {
+        let cell = take(cells, place);
+        cells[place] = widen(plan, alloc, cell)?;
     }
-    Ok(wide)
+    Ok(())
 }
 
-/// The entries of a map.
+/// The entries of a map, each in the place of the one that is read.
 #[cycle(widen)]
-fn widen_entries(value: &Plan, alloc: Global, cells: Vec<Cell>) -> Result<Vec<Cell>, PqFault>
-    ensures { Gives (λ v. cells_of v.items) result (turned_all (pair_of (widened (plan_of value.now))) (cells_of cells.items)) }
+fn widen_entries(value: &Plan, alloc: Global, cells: &mut [Cell]) -> Result<(), PqFault>
+    ensures { Gives (λ _. cells_of cells.new) result (turned_all (pair_of (widened (plan_of value.now))) (cells_of cells.old)) }
 {
-    let mut wide = Vec::with_capacity(alloc, cells.len())?;
-    for cell in cells {
-        wide.push(widen_entry(value, alloc, cell)?)?;
+    for place in 0..cells.len() {
+        let cell = take(cells, place);
+        cells[place] = widen_entry(value, alloc, cell)?;
     }
-    Ok(wide)
+    Ok(())
 }
 
 /// A key and a value. A null key is refused.
@@ -155,6 +162,15 @@ fn key_and_value(cell: Cell) -> Option<(Cell, Option<Cell>)>
     } else {
         None
     }
+}
+
+/// Takes the cell at the place, and leaves null there.
+fn take(cells: &mut [Cell], place: usize) -> Cell
+    requires { place < length cells.old }
+    ensures taken { result ≡ slice_index_or cells.old place result }
+    ensures left { cells.new ≡ slice_set cells.old place Cell.Null }
+{
+    mem::replace(&mut cells[place], Cell::Null)
 }
 
 fn next_cell(cells: &mut IntoIter<Cell>) -> Option<Cell>

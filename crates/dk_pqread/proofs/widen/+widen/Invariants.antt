@@ -1,5 +1,5 @@
-use Rattle.std.proofs.Common.{◌≡◌, drop, length}
-use Rattle.std.specs.Vec.Iter.{into_iter_items, into_iter_len}
+use Rattle.std.proofs.Common.{◌≡◌, drop, length, take}
+use Rattle.std.specs.Vec.Iter.{into_iter_items}
 use Rattle.dk_pqmodel.specs.Laid.{pair_of, turned_all, widened, widened_each}
 use Rattle.dk_pqmodel.specs.RowView.{cells_of}
 use Rattle.dk_pqread.specs.Cells.{cells_then}
@@ -10,13 +10,13 @@ abbrev pub invariant-widen_each-loop-plan : goal.invariant-widen_each-loop-plan
 invariant-widen_each-loop-plan l =
     cells_then (cells_of l.wide.items) (widened_each (plans_of (drop l.plan-index l.plans)) (cells_of (into_iter_items l.own))) ≡ widened_each (plans_of l.plans) (cells_of l.fn.cells.items)
 
-abbrev pub invariant-widen_all-loop-cell : goal.invariant-widen_all-loop-cell
-invariant-widen_all-loop-cell l =
-    (cells_then (cells_of l.wide.items) (turned_all (widened (plan_of l.plan)) (cells_of (into_iter_items l.cell-iterator))) ≡ turned_all (widened (plan_of l.plan)) (cells_of l.fn.cells.items))
-    × (into_iter_len l.cell-iterator ≡ length (into_iter_items l.cell-iterator))
+abbrev pub invariant-widen_all-loop-place : goal.invariant-widen_all-loop-place
+invariant-widen_all-loop-place l =
+    (length l.cells ≡ length l.initial.cells)
+    × (cells_then (cells_of (take l.place l.cells)) (turned_all (widened (plan_of l.plan)) (cells_of (drop l.place l.cells))) ≡ turned_all (widened (plan_of l.plan)) (cells_of l.initial.cells))
 
-abbrev pub invariant-widen_entries-loop-cell : goal.invariant-widen_entries-loop-cell
-invariant-widen_entries-loop-cell l =
-    (cells_then (cells_of l.wide.items) (turned_all (pair_of (widened (plan_of l.value))) (cells_of (into_iter_items l.cell-iterator)))
-    ≡ turned_all (pair_of (widened (plan_of l.value))) (cells_of l.fn.cells.items))
-    × (into_iter_len l.cell-iterator ≡ length (into_iter_items l.cell-iterator))
+abbrev pub invariant-widen_entries-loop-place : goal.invariant-widen_entries-loop-place
+invariant-widen_entries-loop-place l =
+    (length l.cells ≡ length l.initial.cells)
+    × (cells_then (cells_of (take l.place l.cells)) (turned_all (pair_of (widened (plan_of l.value))) (cells_of (drop l.place l.cells)))
+    ≡ turned_all (pair_of (widened (plan_of l.value))) (cells_of l.initial.cells))
