@@ -18,6 +18,7 @@ pub mod FlagKinds
 pub mod Gathering
 pub mod Going
 pub mod Groups
+pub mod InPlace
 pub mod Laying
 pub mod InPlace
 pub mod LevelLaws

@@ -1,6 +1,6 @@
 //! Wanted cells from those that are read. Cells are moved and not copied; those of a list take the place of those that are read.
 
-ghost use Rattle.std.specs.Prelude.{◌≡◌, ◌<◌, IfOk, length, option_map, slice_index_or, slice_set, true};
+ghost use Rattle.std.specs.Prelude.{◌≡◌, ◌<◌, IfOk, length, option_map, slice_index_or, slice_set};
 ghost use Rattle.std.specs.Vec.Iter.{into_iter_items};
 ghost use Rattle.dk_pqmodel.specs.Datum.{group, one_cell, no_cells};
 ghost use Rattle.dk_pqmodel.specs.Laid.{in_group, in_list, is_missing, pair_of, turned_all, widened, widened_each};
@@ -97,7 +97,7 @@ fn widen_next(plan: &Plan, alloc: Global, own: &mut IntoIter<Cell>) -> Result<Ce
     widen(plan, alloc, cell)
 }
 
-/// The elements of a list.
+/// The elements of a list, each in the place of the one that is read.
 #[cycle(widen)]
 fn widen_all(plan: &Plan, alloc: Global, cells: &mut [Cell]) -> Result<(), PqFault>
     ensures { Gives (λ _. cells_of cells.new) result (turned_all (widened (plan_of plan.now)) (cells_of cells.old)) }
@@ -109,7 +109,7 @@ fn widen_all(plan: &Plan, alloc: Global, cells: &mut [Cell]) -> Result<(), PqFau
     Ok(())
 }
 
-/// The entries of a map.
+/// The entries of a map, each in the place of the one that is read.
 #[cycle(widen)]
 fn widen_entries(value: &Plan, alloc: Global, cells: &mut [Cell]) -> Result<(), PqFault>
     ensures { Gives (λ _. cells_of cells.new) result (turned_all (pair_of (widened (plan_of value.now))) (cells_of cells.old)) }
