@@ -20,7 +20,6 @@ pub mod Going
 pub mod Groups
 pub mod InPlace
 pub mod Laying
-pub mod InPlace
 pub mod LevelLaws
 pub mod OneList
 pub mod Opening
