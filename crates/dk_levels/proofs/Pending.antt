@@ -113,10 +113,10 @@ add_loop ns i n cs more total h is added p =
     ∙ ap (λ x. columns_of cs ++ x) (replicate-append-replicate (width_at (shape_of n.kind)) (width_of (fields_of (drop (i + 1) ns))) [])
     ∙ sym (ap (λ fs. columns_of cs ++ empty_columns (width_of fs)) (fields_of-drop ns i n h is ∙ ap (λ f. one_field f (fields_of (drop (i + 1) ns))) (field_of-is n))) ∙ p
 
-pub add_map : (b : Box Node Global) (cs between more : List (Vec Triple Global)) (v : Vec Triple Global)
-    → v.items ≡ [] → between ≡ cs ++ v ∷ [] → columns_of more ≡ columns_of between ++ empty_columns (width_at (shape_of b.value.kind))
+pub add_map : (b : Box Node Global) (cs between more : List (Vec Triple Global))
+    → columns_of between ≡ columns_of cs ++ empty_columns 1 → columns_of more ≡ columns_of between ++ empty_columns (width_at (shape_of b.value.kind))
     → columns_of more ≡ columns_of cs ++ empty_columns (width_at (shape_of (Map b)))
-add_map b cs between more v e h added =
+add_map b cs between more first added =
     rw (shape_of-Map b, field_of-is b.value)
-    (added ∙ ap (λ x. x ++ empty_columns (width_at (shape_of b.value.kind))) (add_one cs between v e h) ∙ append_assoc (columns_of cs) _ _
+    (added ∙ ap (λ x. x ++ empty_columns (width_at (shape_of b.value.kind))) first ∙ append_assoc (columns_of cs) _ _
     ∙ ap (λ x. columns_of cs ++ x) (replicate-append-replicate 1 (width_at (shape_of b.value.kind)) []))

@@ -9,17 +9,18 @@ ghost use Rattle.dk_pqmodel.specs.Triples.{empty_columns};
 use dk_pqmodel::{Node, NodeKind, Triple};
 use std::alloc::{AllocError, Global};
 
-/// Adds an empty column for each leaf of the nodes.
+/// Adds an empty column for each leaf of the nodes, with room for so many triples.
 #[cycle(add)]
 pub fn add_columns(
     alloc: Global,
     columns: &mut Vec<Vec<Triple>>,
     nodes: &[Node],
+    room: usize,
 ) -> Result<(), AllocError>
     ensures { OnOk result (columns_of columns.new.items ≡ columns_of columns.old.items ++ empty_columns (width_of (fields_of nodes.now))) }
 {
     for node in nodes {
-        add_kind(alloc, columns, &node.kind)?;
+        add_kind(alloc, columns, &node.kind, room)?;
     }
     Ok(())
 }
@@ -29,20 +30,29 @@ fn add_kind(
     alloc: Global,
     columns: &mut Vec<Vec<Triple>>,
     kind: &NodeKind,
+    room: usize,
 ) -> Result<(), AllocError>
     ensures { OnOk result (columns_of columns.new.items ≡ columns_of columns.old.items ++ empty_columns (width_at (shape_of kind.now))) }
 {
     match kind {
         NodeKind::Flag | NodeKind::Int32 | NodeKind::Int64 | NodeKind::Chars => {
-            columns.push(Vec::new(alloc))?;
-            Ok(())
+            add_column(alloc, columns, room)
         }
-        NodeKind::Group(nodes) => add_columns(alloc, columns, nodes),
-        NodeKind::List(node) => add_kind(alloc, columns, &node.kind),
+        NodeKind::Group(nodes) => add_columns(alloc, columns, nodes, room),
+        NodeKind::List(node) => add_kind(alloc, columns, &node.kind, room),
         NodeKind::Map(node) => {
-            columns.push(Vec::new(alloc))?;
-            add_kind(alloc, columns, &node.kind)?;
+            add_column(alloc, columns, room)?;
+            add_kind(alloc, columns, &node.kind, room)?;
             Ok(())
         }
     }
+}
+
+/// Adds an empty column, with room for so many triples.
+fn add_column(alloc: Global, columns: &mut Vec<Vec<Triple>>, room: usize) -> Result<(), AllocError>
+    ensures { OnOk result (columns_of columns.new.items ≡ columns_of columns.old.items ++ empty_columns 1) }
+{
+    let column = Vec::with_capacity(alloc, room)?;
+    columns.push(column)?;
+    Ok(())
 }

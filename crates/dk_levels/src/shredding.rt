@@ -19,13 +19,14 @@ use std::alloc::{AllocError, Global};
 /// The triples of the rows, column by column.
 ///
 /// Rows that fit the schema have its form. The form alone is needed here: a number at an `Int32`
-/// may be of any size.
+/// may be of any size. Each row has a triple or more in each column, so there is room for as many
+/// from the start.
 pub fn shred(alloc: Global, schema: &Schema, rows: &[Row]) -> Result<Columns, AllocError>
     requires { AreRowsOf (fields_in schema.now) (rows_of rows.now) }
     ensures { IfOk result (λ c. columns_in c ≡ triples (fields_in schema.now) (rows_of rows.now)) }
 {
     let mut leaves = Vec::new(alloc);
-    add_columns(alloc, &mut leaves, &schema.nodes)?;
+    add_columns(alloc, &mut leaves, &schema.nodes, rows.len())?;
     put_rows(&mut leaves, &schema.nodes, rows)?;
     Ok(Columns { leaves })
 }

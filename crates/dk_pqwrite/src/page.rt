@@ -101,8 +101,10 @@ fn levels_of(alloc: Global, column: LeafColumn, triples: &[Triple]) -> Result<Ve
     ensures { IfOk result (λ v. HoldBoth column (map entry_of triples.now) v.items) }
 {
     let mut body = Vec::new(alloc);
-    let repetitions = repetitions(alloc, triples)?;
-    add_levels(alloc, &mut body, column.rep, &repetitions)?;
+    if column.rep > 0 {
+        let repetitions = repetitions(alloc, triples)?;
+        add_levels(alloc, &mut body, column.rep, &repetitions)?;
+    }
     let definitions = definitions(alloc, triples)?;
     add_levels(alloc, &mut body, column.def, &definitions)?;
     Ok(body)
