@@ -8,12 +8,12 @@ use Rattle.dk_pqmodel.specs.Triples.{joined, reached, cell_triples, group_triple
 use Rattle.dk_pqmodel.specs.Fits.{Matches, MatchEach, MatchAll}
 use Rattle.dk_pqmodel.specs.NodeView.{field_of, fields_of}
 use Rattle.dk_pqmodel.specs.RowView.{datum_of, cells_of, rows_of}
-use Rattle.dk_pqmodel.specs.ColumnView.{columns_of, column_of}
+use Rattle.dk_levels.specs.Borrowed.{columns_of, column_of}
 use Rattle.dk_pqmodel.specs.declared.node.Node.{Node}
 use Rattle.dk_pqmodel.specs.declared.node.NodeKind as node
 use Rattle.dk_pqmodel.specs.declared.row.Cell.{Cell, the_lemmas}
 use Rattle.dk_pqmodel.specs.declared.row.Cell as cell
-use Rattle.dk_pqmodel.specs.declared.columns.Triple.{Triple}
+use Rattle.dk_levels.specs.declared.borrowed.BorrowedTriple.{BorrowedTriple}
 use Rattle.dk_pqmodel.specs.declared.row.Row.{Row}
 use Rattle.dk_levels.specs.Places.{from, Adds}
 use Rattle.dk_levels.proofs.Joins.{length-joined, adds_again, adds_beside, joined-nothing}
@@ -117,7 +117,7 @@ fit_each_within (n ∷ ns) [] h = absurd h
 fit_each_within (n ∷ ns) (c ∷ cs) h = omega (arith, fit_each_within ns cs h.1)
 
 -- the next cell of a group
-pub group_loop : (ns : List Node) (cs : List Cell) (i : ℕ) (n : Node) (c : Cell) (columns more : List (Vec Triple Global)) (next after r d k end : ℕ) (total : List Column)
+pub group_loop : (ns : List Node) (cs : List Cell) (i : ℕ) (n : Node) (c : Cell) (columns more : List (Vec BorrowedTriple Global)) (next after r d k end : ℕ) (total : List Column)
     → i < length ns → n ≡ get_or ns i n → i < length cs → c ≡ get_or cs i c
     → Adds next columns more (cell_triples (datum_of c) (field_of n) r d k) → after ≡ next + width_in (field_of n)
     → GroupPending columns next (drop i ns) (drop i cs) r d k total end
@@ -138,7 +138,7 @@ group_loop ns cs i n c columns more next after r d k end total hn en hc ec added
 pub group_within : (ns : List Node) (cs : List Cell) (i : ℕ) → MatchEach (cells_of cs) (fields_of ns) → i < length cs → i < length ns
 group_within ns cs i h l = omega (arith, fit_each_within ns cs h)
 
-pub group_ends : (ns : List Node) (cs : List Cell) (i : ℕ) (columns : List (Vec Triple Global)) (next r d k end : ℕ) (total : List Column)
+pub group_ends : (ns : List Node) (cs : List Cell) (i : ℕ) (columns : List (Vec BorrowedTriple Global)) (next r d k end : ℕ) (total : List Column)
     → MatchEach (cells_of cs) (fields_of ns) → length cs ≤ i → end ≤ length columns → GroupPending columns next (drop i ns) (drop i cs) r d k total end → columns_of columns ≡ total
 group_ends ns cs i columns next r d k end total h l room p =
     let en : drop i ns ≡ [] = drop_all i ns (omega (arith, fit_each_within ns cs h)) in
@@ -147,7 +147,7 @@ group_ends ns cs i columns next r d k end total h l room p =
     (pending_ends columns next end total q (omega (arith, q.ends))).0
 
 -- the next element of a list
-pub later_loop : (f : Field) (cs : List Cell) (i : ℕ) (c : Cell) (columns more : List (Vec Triple Global)) (leaf r d k : ℕ) (total : List Column)
+pub later_loop : (f : Field) (cs : List Cell) (i : ℕ) (c : Cell) (columns more : List (Vec BorrowedTriple Global)) (leaf r d k : ℕ) (total : List Column)
     → i < length cs → c ≡ get_or cs i c → r ≡ k → Adds leaf columns more (cell_triples (datum_of c) f r d k)
     → LaterPending columns leaf f (drop i cs) d k total → LaterPending more leaf f (drop (i + 1) cs) d k total
 later_loop f cs i c columns more leaf r d k total h is e added p =
@@ -160,14 +160,14 @@ later_loop f cs i c columns more leaf r d k total h is e added p =
       fits = fits.1;
     }
 
-pub later_ends : (f : Field) (cs : List Cell) (i : ℕ) (columns : List (Vec Triple Global)) (leaf d k : ℕ) (total : List Column)
+pub later_ends : (f : Field) (cs : List Cell) (i : ℕ) (columns : List (Vec BorrowedTriple Global)) (leaf d k : ℕ) (total : List Column)
     → length cs ≤ i → leaf ≤ length columns → LaterPending columns leaf f (drop i cs) d k total → columns_of columns ≡ total
 later_ends f cs i columns leaf d k total h room p =
     let ec : drop i cs ≡ [] = drop_all i cs h in
     let are : joined (columns_of columns) (from leaf []) ≡ total = rw ec at p.columns_are in
     sym (joined-empties leaf (columns_of columns) (omega (arith, length-map columns column_of))) ∙ are
 
-pub list_ends : (f : Field) (cs : List Cell) (c : Cell) (columns between more : List (Vec Triple Global)) (leaf r d k : ℕ)
+pub list_ends : (f : Field) (cs : List Cell) (c : Cell) (columns between more : List (Vec BorrowedTriple Global)) (leaf r d k : ℕ)
     → 0 < length cs → c ≡ get_or cs 0 c
     → Adds leaf columns between (cell_triples (datum_of c) f r (d + 1) (k + 1))
     → Adds leaf between more (later_triples (cells_of (drop 1 cs)) f (d + 1) (k + 1))
@@ -191,7 +191,7 @@ rows_of-drop_suc [] i row h e = absurd (omega arith)
 rows_of-drop_suc (m ∷ rows) zero row h e = ap (λ x. one_cell (group (cells_of x.cells.items)) (rows_of rows)) (sym e)
 rows_of-drop_suc (m ∷ rows) (suc i) row h e = rows_of-drop_suc rows i row (omega arith) e
 
-pub rows_loop : (fs : Fields) (rows : List Row) (i : ℕ) (row : Row) (columns more : List (Vec Triple Global)) (total : List Column)
+pub rows_loop : (fs : Fields) (rows : List Row) (i : ℕ) (row : Row) (columns more : List (Vec BorrowedTriple Global)) (total : List Column)
     → i < length rows → row ≡ get_or rows i row → Adds 0 columns more (group_triples (cells_of row.cells.items) fs 0 0 0)
     → RowsPending columns fs (drop i rows) total → RowsPending more fs (drop (i + 1) rows) total
 rows_loop fs rows i row columns more total h is added p =
@@ -203,14 +203,14 @@ rows_loop fs rows i row columns more total h is added p =
       fits = fits.1;
     }
 
-pub rows_end : (fs : Fields) (rows : List Row) (i : ℕ) (columns : List (Vec Triple Global)) (total : List Column)
+pub rows_end : (fs : Fields) (rows : List Row) (i : ℕ) (columns : List (Vec BorrowedTriple Global)) (total : List Column)
     → length rows ≤ i → RowsPending columns fs (drop i rows) total → columns_of columns ≡ total
 rows_end fs rows i columns total h p =
     let e : drop i rows ≡ [] = drop_all i rows h in
     let are : joined (columns_of columns) [] ≡ total = rw e at p.columns_are in
     sym (joined-nothing (columns_of columns)) ∙ are
 
-pub pair_ends : (cs : List Cell) (f : Field) (a b : Cell) (columns between more : List (Vec Triple Global)) (leaf value r d k : ℕ)
+pub pair_ends : (cs : List Cell) (f : Field) (a b : Cell) (columns between more : List (Vec BorrowedTriple Global)) (leaf value r d k : ℕ)
     → MatchEach (cells_of cs) (one_field key (one_field f no_fields)) → a ≡ get_or cs 0 a → b ≡ get_or cs 1 b
     → Adds leaf columns between (cell_triples (datum_of a) key r d k) → value ≡ leaf + 1 → Adds value between more (cell_triples (datum_of b) f r d k)
     → Adds leaf columns more (group_triples (cells_of cs) (one_field key (one_field f no_fields)) r d k)

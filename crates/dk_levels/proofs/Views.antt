@@ -3,15 +3,15 @@ use Rattle.std.proofs.Common.{◌≡◌, ℕ, zero, suc, ◌<◌, List, [], ◌�
 use Rattle.std.proofs.lemmas.List.{append-nil, map-append}
 use Rattle.dk_pqmodel.specs.Shape.{width_at}
 use Rattle.dk_pqmodel.specs.NodeView.{shape_of}
-use Rattle.dk_pqmodel.specs.ColumnView.{columns_of, column_of, entry_of}
-use Rattle.dk_pqmodel.specs.declared.columns.Triple.{Triple}
+use Rattle.dk_levels.specs.Borrowed.{columns_of, column_of, entry_of}
+use Rattle.dk_levels.specs.declared.borrowed.BorrowedTriple.{BorrowedTriple}
 use Rattle.dk_pqmodel.specs.declared.node.NodeKind.{NodeKind, Flag, Int32, Int64, Chars}
 use Rattle.dk_levels.specs.Places.{Adds}
 use Rattle.dk_pqmodel.proofs.NodeViews.{shape_of-Flag, shape_of-Int32, shape_of-Int64, shape_of-Chars}
 use Rattle.dk_levels.proofs.Joins.{joined-nothing}
 
 -- a push to one column
-pub pushed : (cs : List (Vec Triple Global)) (i : ℕ) (d new : Vec Triple Global) (t : Triple)
+pub pushed : (cs : List (Vec BorrowedTriple Global)) (i : ℕ) (d new : Vec BorrowedTriple Global) (t : BorrowedTriple)
     → i < length cs → new.items ≡ (get_or cs i d).items ++ t ∷ [] → Adds i cs (set cs i new) ((entry_of t ∷ []) ∷ [])
 pushed [] i d new t h e = absurd (omega arith)
 pushed (c ∷ cs) zero d new t h e =

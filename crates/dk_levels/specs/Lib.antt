@@ -1,3 +1,4 @@
+pub mod Borrowed
 pub mod Fronts
 pub mod Laws
 pub mod Places

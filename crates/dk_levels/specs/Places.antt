@@ -3,12 +3,12 @@ use Rattle.std.specs.Prelude.{◌≡◌, ℕ, List, ◌++◌, Vec}
 use Rattle.std.specs.declared.alloc.Global.{Global}
 use Rattle.dk_pqmodel.specs.Datum.{Column}
 use Rattle.dk_pqmodel.specs.Triples.{joined, empty_columns}
-use Rattle.dk_pqmodel.specs.ColumnView.{columns_of}
-use Rattle.dk_pqmodel.specs.declared.columns.Triple.{Triple}
+use Rattle.dk_levels.specs.Borrowed.{columns_of}
+use Rattle.dk_levels.specs.declared.borrowed.BorrowedTriple.{BorrowedTriple}
 
 -- these columns, from that place on
 abbrev pub from : ℕ → List Column → List Column
 from place ts = empty_columns place ++ ts
 
-abbrev pub Adds : ℕ → List (Vec Triple Global) → List (Vec Triple Global) → List Column → Type 0
+abbrev pub Adds : ℕ → List (Vec BorrowedTriple Global) → List (Vec BorrowedTriple Global) → List Column → Type 0
 Adds place old new ts = columns_of new ≡ joined (columns_of old) (from place ts)

@@ -2,18 +2,19 @@
 
 ghost use Rattle.std.specs.Prelude.{◌≡◌, ◌++◌, OnOk};
 ghost use Rattle.dk_pqmodel.specs.NodeView.{fields_of, shape_of};
-ghost use Rattle.dk_pqmodel.specs.ColumnView.{columns_of};
+ghost use Rattle.dk_levels.specs.Borrowed.{columns_of};
 ghost use Rattle.dk_pqmodel.specs.Shape.{width_at, width_of};
 ghost use Rattle.dk_pqmodel.specs.Triples.{empty_columns};
 
-use dk_pqmodel::{Node, NodeKind, Triple};
+use crate::borrowed::BorrowedTriple;
+use dk_pqmodel::{Node, NodeKind};
 use std::alloc::{AllocError, Global};
 
 /// Adds an empty column for each leaf of the nodes, with room for so many triples.
 #[cycle(add)]
 pub fn add_columns(
     alloc: Global,
-    columns: &mut Vec<Vec<Triple>>,
+    columns: &mut Vec<Vec<BorrowedTriple<'_>>>,
     nodes: &[Node],
     room: usize,
 ) -> Result<(), AllocError>
@@ -28,7 +29,7 @@ pub fn add_columns(
 #[cycle(add)]
 fn add_kind(
     alloc: Global,
-    columns: &mut Vec<Vec<Triple>>,
+    columns: &mut Vec<Vec<BorrowedTriple<'_>>>,
     kind: &NodeKind,
     room: usize,
 ) -> Result<(), AllocError>
@@ -49,7 +50,11 @@ fn add_kind(
 }
 
 /// Adds an empty column, with room for so many triples.
-fn add_column(alloc: Global, columns: &mut Vec<Vec<Triple>>, room: usize) -> Result<(), AllocError>
+fn add_column(
+    alloc: Global,
+    columns: &mut Vec<Vec<BorrowedTriple<'_>>>,
+    room: usize,
+) -> Result<(), AllocError>
     ensures { OnOk result (columns_of columns.new.items ≡ columns_of columns.old.items ++ empty_columns 1) }
 {
     let column = Vec::with_capacity(alloc, room)?;

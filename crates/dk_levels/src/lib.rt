@@ -4,6 +4,7 @@
 #![tactic(auto)]
 
 mod assembly;
+mod borrowed;
 mod empty;
 mod fronts;
 pub mod laws;
@@ -16,4 +17,5 @@ mod to_rows;
 mod width;
 
 pub use assembly::{assemble, assemble_nodes};
-pub use shredding::shred;
+pub use borrowed::{BorrowedTriple, BorrowedValue};
+pub use shredding::{shred, shred_borrowed};

@@ -8,30 +8,50 @@ ghost use Rattle.dk_pqmodel.specs.ColumnView.{columns_in};
 ghost use Rattle.dk_pqmodel.specs.Shape.{width_of, deepest_of, root};
 ghost use Rattle.dk_pqmodel.specs.Triples.{triples, later_triples};
 ghost use Rattle.dk_pqmodel.specs.Fits.{AreRowsOf};
+ghost use Rattle.dk_levels.specs.Borrowed.{columns_of};
 ghost use Rattle.dk_levels.specs.Places.{Adds};
 
+use crate::borrowed::{BorrowedTriple, owned_columns};
 use crate::empty::add_columns;
 use crate::levels::TOP;
 use crate::to_columns::put_group;
-use dk_pqmodel::{Columns, Node, Row, Schema, Triple};
+use dk_pqmodel::{Columns, Node, Row, Schema};
 use std::alloc::{AllocError, Global};
 
 /// The triples of the rows, column by column.
 ///
 /// Rows that fit the schema have its form. The form alone is needed here: a number at an `Int32`
-/// may be of any size. Each row has a triple or more in each column, so there is room for as many
-/// from the start.
+/// may be of any size.
 pub fn shred(alloc: Global, schema: &Schema, rows: &[Row]) -> Result<Columns, AllocError>
     requires { AreRowsOf (fields_in schema.now) (rows_of rows.now) }
     ensures { IfOk result (λ c. columns_in c ≡ triples (fields_in schema.now) (rows_of rows.now)) }
 {
-    let mut leaves = Vec::new(alloc);
-    add_columns(alloc, &mut leaves, &schema.nodes, rows.len())?;
-    put_rows(&mut leaves, &schema.nodes, rows)?;
-    Ok(Columns { leaves })
+    let columns = shred_borrowed(alloc, schema, rows)?;
+    owned_columns(alloc, &columns)
 }
 
-fn put_rows(columns: &mut [Vec<Triple>], nodes: &[Node], rows: &[Row]) -> Result<(), AllocError>
+/// The triples of the rows, column by column, with the texts of the rows.
+///
+/// Each row has a triple or more in each column, so there is room for as many from the start.
+pub fn shred_borrowed<'a>(
+    alloc: Global,
+    schema: &Schema,
+    rows: &'a [Row],
+) -> Result<Vec<Vec<BorrowedTriple<'a>>>, AllocError>
+    requires { AreRowsOf (fields_in schema.now) (rows_of rows.now) }
+    ensures { IfOk result (λ v. columns_of v.items ≡ triples (fields_in schema.now) (rows_of rows.now)) }
+{
+    let mut columns = Vec::new(alloc);
+    add_columns(alloc, &mut columns, &schema.nodes, rows.len())?;
+    put_rows(&mut columns, &schema.nodes, rows)?;
+    Ok(columns)
+}
+
+fn put_rows<'a>(
+    columns: &mut [Vec<BorrowedTriple<'a>>],
+    nodes: &[Node],
+    rows: &'a [Row],
+) -> Result<(), AllocError>
     requires fits { AreRowsOf (fields_of nodes.now) (rows_of rows.now) }
     requires room { width_of (fields_of nodes.now) ≤ length columns.old }
     requires deep { deepest_of (fields_of nodes.now) < 256 }

@@ -5,28 +5,29 @@
 ghost use Rattle.std.specs.Prelude.{◌≡◌, ◌+◌, ◌<◌, ◌≤◌, length, drop, IfOk, OnOk, [], ◌∷◌, option_map};
 ghost use Rattle.dk_pqmodel.specs.NodeView.{field_of, fields_of, shape_of};
 ghost use Rattle.dk_pqmodel.specs.RowView.{datum_of, cells_of};
-ghost use Rattle.dk_pqmodel.specs.ColumnView.{value_of};
+ghost use Rattle.dk_levels.specs.Borrowed.{value_of};
 ghost use Rattle.dk_pqmodel.specs.Shape.{width_at, width_in, width_of, deepest_in, deepest_of, entry, shape_in, key, one_field, no_fields};
 ghost use Rattle.dk_pqmodel.specs.Triples.{nothing, cell_triples, group_triples, later_triples, list_triples};
 ghost use Rattle.dk_pqmodel.specs.Fits.{Matches, MatchEach, MatchAll};
 ghost use Rattle.dk_levels.specs.Places.{Adds};
 ghost use Rattle.dk_levels.specs.Repeated.{element_of};
 
+use crate::borrowed::{BorrowedTriple, BorrowedValue};
 use crate::levels::{Levels, Repeated, reach};
-use dk_pqmodel::{Cell, Node, NodeKind, Triple, Value};
+use dk_pqmodel::{Cell, Node, NodeKind};
 use std::alloc::AllocError;
 
-fn push(
-    columns: &mut [Vec<Triple>],
+fn push<'a>(
+    columns: &mut [Vec<BorrowedTriple<'a>>],
     leaf: usize,
     levels: Levels,
-    value: Option<Value>,
+    value: Option<BorrowedValue<'a>>,
 ) -> Result<usize, AllocError>
     requires { leaf < length columns.old }
     ensures next { IfOk result (λ n. n ≡ leaf + 1) }
-    ensures added { OnOk result (Adds leaf columns.old columns.new ((record { repetition = levels.repetition; definition = levels.definition; value = option_map value_of value } ∷ []) ∷ [])) }
+    ensures added { OnOk result (Adds leaf columns.old columns.new ((record { repetition = levels.repetition; definition = levels.definition; value = option_map value_of value.entry } ∷ []) ∷ [])) }
 {
-    columns[leaf].push(Triple {
+    columns[leaf].push(BorrowedTriple {
         repetition: levels.repetition,
         definition: levels.definition,
         value,
@@ -36,7 +37,7 @@ fn push(
 
 /// One triple without a value in each column of the kind.
 fn put_nothing(
-    columns: &mut [Vec<Triple>],
+    columns: &mut [Vec<BorrowedTriple<'_>>],
     leaf: usize,
     levels: Levels,
     kind: &NodeKind,
@@ -67,7 +68,7 @@ fn put_nothing(
 
 /// An empty list or map: one triple without a value in each column of its elements or entries.
 fn put_no_element(
-    columns: &mut [Vec<Triple>],
+    columns: &mut [Vec<BorrowedTriple<'_>>],
     leaf: usize,
     levels: Levels,
     node: &Node,
@@ -88,10 +89,10 @@ fn put_no_element(
 }
 
 #[cycle(put)]
-fn put(
-    cell: &Cell,
+fn put<'a>(
+    cell: &'a Cell,
     node: &Node,
-    columns: &mut [Vec<Triple>],
+    columns: &mut [Vec<BorrowedTriple<'a>>],
     leaf: usize,
     levels: Levels,
 ) -> Result<usize, AllocError>
@@ -104,18 +105,23 @@ fn put(
 {
     match cell {
         Cell::Null => put_nothing(columns, leaf, levels, &node.kind),
-        Cell::Flag(flag) => push(columns, leaf, reach(levels, node), Some(Value::Flag(*flag))),
+        Cell::Flag(flag) => push(
+            columns,
+            leaf,
+            reach(levels, node),
+            Some(BorrowedValue::Flag(*flag)),
+        ),
         Cell::Int(number) => push(
             columns,
             leaf,
             reach(levels, node),
-            Some(Value::Int(*number)),
+            Some(BorrowedValue::Int(*number)),
         ),
         Cell::Chars(text) => push(
             columns,
             leaf,
             reach(levels, node),
-            Some(Value::Chars(text.clone()?)),
+            Some(BorrowedValue::Chars(text.as_str())),
         ),
         Cell::Group(cells) => match &node.kind {
             NodeKind::Group(nodes) => put_group(cells, nodes, columns, leaf, reach(levels, node)),
@@ -145,10 +151,10 @@ fn put(
 
 /// A cell for each node.
 #[cycle(put)]
-pub fn put_group(
-    cells: &[Cell],
+pub fn put_group<'a>(
+    cells: &'a [Cell],
     nodes: &[Node],
-    columns: &mut [Vec<Triple>],
+    columns: &mut [Vec<BorrowedTriple<'a>>],
     leaf: usize,
     levels: Levels,
 ) -> Result<usize, AllocError>
@@ -168,11 +174,11 @@ pub fn put_group(
 
 /// A list or a map that isn't null.
 #[cycle(put)]
-fn put_list(
-    cells: &[Cell],
+fn put_list<'a>(
+    cells: &'a [Cell],
     node: &Node,
     repeated: Repeated,
-    columns: &mut [Vec<Triple>],
+    columns: &mut [Vec<BorrowedTriple<'a>>],
     leaf: usize,
     levels: Levels,
 ) -> Result<usize, AllocError>
@@ -203,11 +209,11 @@ fn put_list(
 
 /// The elements behind the first. Each begins at the list's own repetition level.
 #[cycle(put)]
-fn put_later(
-    cells: &[Cell],
+fn put_later<'a>(
+    cells: &'a [Cell],
     node: &Node,
     repeated: Repeated,
-    columns: &mut [Vec<Triple>],
+    columns: &mut [Vec<BorrowedTriple<'a>>],
     leaf: usize,
     levels: Levels,
 ) -> Result<(), AllocError>
@@ -225,11 +231,11 @@ fn put_later(
 }
 
 #[cycle(put)]
-fn put_element(
-    cell: &Cell,
+fn put_element<'a>(
+    cell: &'a Cell,
     node: &Node,
     repeated: Repeated,
-    columns: &mut [Vec<Triple>],
+    columns: &mut [Vec<BorrowedTriple<'a>>],
     leaf: usize,
     levels: Levels,
 ) -> Result<usize, AllocError>
@@ -248,10 +254,10 @@ fn put_element(
 
 /// An entry of a map: a group of a key and a value.
 #[cycle(put)]
-fn put_entry(
-    cell: &Cell,
+fn put_entry<'a>(
+    cell: &'a Cell,
     node: &Node,
-    columns: &mut [Vec<Triple>],
+    columns: &mut [Vec<BorrowedTriple<'a>>],
     leaf: usize,
     levels: Levels,
 ) -> Result<usize, AllocError>
@@ -269,10 +275,10 @@ fn put_entry(
 }
 
 #[cycle(put)]
-fn put_pair(
-    cells: &[Cell],
+fn put_pair<'a>(
+    cells: &'a [Cell],
     node: &Node,
-    columns: &mut [Vec<Triple>],
+    columns: &mut [Vec<BorrowedTriple<'a>>],
     leaf: usize,
     levels: Levels,
 ) -> Result<usize, AllocError>
@@ -289,9 +295,9 @@ fn put_pair(
     Ok(next)
 }
 
-fn push_key(
-    cell: &Cell,
-    columns: &mut [Vec<Triple>],
+fn push_key<'a>(
+    cell: &'a Cell,
+    columns: &mut [Vec<BorrowedTriple<'a>>],
     leaf: usize,
     levels: Levels,
 ) -> Result<usize, AllocError>
@@ -301,7 +307,12 @@ fn push_key(
     ensures added { OnOk result (Adds leaf columns.old columns.new (cell_triples (datum_of cell.now) key levels.repetition levels.definition levels.lists)) }
 {
     match cell {
-        Cell::Chars(text) => push(columns, leaf, levels, Some(Value::Chars(text.clone()?))),
+        Cell::Chars(text) => push(
+            columns,
+            leaf,
+            levels,
+            Some(BorrowedValue::Chars(text.as_str())),
+        ),
         _ => unreachable!(),
     }
 }

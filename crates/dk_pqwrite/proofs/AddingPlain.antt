@@ -19,9 +19,9 @@ use Rattle.dk_pqmodel.specs.Datum.{Value, Entry, Column}
 use Rattle.dk_pqmodel.specs.Fits.{fits_leaf, in_i32}
 use Rattle.dk_pqmodel.specs.FilePages.{IsPlainOf, ArePlainOf, InPlain}
 use Rattle.dk_pqmodel.specs.Weight.{text_length}
-use Rattle.dk_pqmodel.specs.ColumnView.{entry_of, value_of}
-use Rattle.dk_pqmodel.specs.declared.columns.Triple.{Triple}
-use Rattle.dk_pqmodel.specs.declared.columns.Value as code
+use Rattle.dk_levels.specs.Borrowed.{entry_of, value_of}
+use Rattle.dk_levels.specs.declared.borrowed.BorrowedTriple.{BorrowedTriple}
+use Rattle.dk_levels.specs.declared.borrowed.BorrowedValue as code
 use Rattle.dk_pqwrite.specs.Adding.{Adds}
 use Rattle.dk_pqwrite.specs.PlainValues.{ArePlain, FitsEntry, flag_of, flags_in, plain_size}
 use Rattle.dk_pqwrite.specs.WrittenColumn.{values_in}
@@ -116,7 +116,7 @@ pub single : {X : Type 0} (x : Option X) → filter_map (λ y. y) (x ∷ []) ≡
 single None = refl
 single (Some x) = refl
 
-module _ (triples : List Triple) (i : ℕ) (t : Triple) (within : i < length triples) (there : t ≡ get_or triples i t) where
+module _ (triples : List BorrowedTriple) (i : ℕ) (t : BorrowedTriple) (within : i < length triples) (there : t ≡ get_or triples i t) where
   pub entries_more : map entry_of (take (i + 1) triples) ≡ map entry_of (take i triples) ++ entry_of t ∷ []
   entries_more =
       let one_more : take (suc i) triples ≡ take i triples ++ get_or triples i t ∷ [] = take-suc triples i t within in
@@ -127,19 +127,19 @@ module _ (triples : List Triple) (i : ℕ) (t : Triple) (within : i < length tri
       let both = filter_map-append (λ (x : Entry). option_and_then flag_of x.value) (map entry_of (take i triples)) (entry_of t ∷ []) in
       rw (entries_more, e) (both ∙ ap (λ xs. flags_in (map entry_of (take i triples)) ++ xs) (single (option_and_then flag_of (entry_of t).value)))
 
-  values_some : (v : code.Value) → t.value ≡ Some v → values_in (map entry_of (take (i + 1) triples)) ≡ values_in (map entry_of (take i triples)) ++ value_of v ∷ []
+  values_some : (v : code.BorrowedValue) → t.value ≡ Some v → values_in (map entry_of (take (i + 1) triples)) ≡ values_in (map entry_of (take i triples)) ++ value_of v ∷ []
   values_some v e = rw entries_more (filter_map-append (λ (x : Entry). x.value) (map entry_of (take i triples)) (entry_of t ∷ []) ∙ rw e refl)
 
   values_none : t.value ≡ None → values_in (map entry_of (take (i + 1) triples)) ≡ values_in (map entry_of (take i triples)) ++ []
   values_none e = rw entries_more (filter_map-append (λ (x : Entry). x.value) (map entry_of (take i triples)) (entry_of t ∷ []) ∙ rw e refl)
 
-module _ (kind : Leaf) (triples : List Triple) (i : ℕ) (t : Triple) (within : i < length triples) (there : t ≡ get_or triples i t) where
-  pub fits_there : (v : code.Value) → t.value ≡ Some v → All (FitsEntry kind) (map entry_of triples) → IsTrue (fits_leaf (value_of v) kind) × (text_length (value_of v) < 2 ^ 32)
+module _ (kind : Leaf) (triples : List BorrowedTriple) (i : ℕ) (t : BorrowedTriple) (within : i < length triples) (there : t ≡ get_or triples i t) where
+  pub fits_there : (v : code.BorrowedValue) → t.value ≡ Some v → All (FitsEntry kind) (map entry_of triples) → IsTrue (fits_leaf (value_of v) kind) × (text_length (value_of v) < 2 ^ 32)
   fits_there v e h =
       let here = All-get_or (FitsEntry kind) (map entry_of triples) i (entry_of t) (rw length-map within) h in
       rw (get_or-map entry_of triples i t (entry_of t) within, ← there, e) at here
 
-  pub some_more : (v : code.Value) (old mid new : List ℕ) → t.value ≡ Some v
+  pub some_more : (v : code.BorrowedValue) (old mid new : List ℕ) → t.value ≡ Some v
       → Adds (ArePlain kind (values_in (map entry_of (take i triples)))) (plain_size (values_in (map entry_of (take i triples)))) old mid
       → Adds (ArePlain kind (value_of v ∷ [])) (8 + text_length (value_of v)) mid new
       → Adds (ArePlain kind (values_in (map entry_of (take (i + 1) triples)))) (plain_size (values_in (map entry_of (take (i + 1) triples)))) old new

@@ -8,9 +8,9 @@ use Rattle.std.proofs.lemmas.List.{length-append, map-append}
 use Rattle.std.proofs.lemmas.List.Elements.{filter-append, filter_map-append}
 use Rattle.std.proofs.lemmas.Option.{slice_get-map}
 use Rattle.std.proofs.lemmas.Slice.Eq.{bytes_eq-Decides}
-use Rattle.dk_pqmodel.specs.ColumnView.{entry_of}
+use Rattle.dk_levels.specs.Borrowed.{entry_of}
 use Rattle.dk_pqmodel.specs.Datum.{Entry}
-use Rattle.dk_pqmodel.specs.declared.columns.Triple.{Triple}
+use Rattle.dk_levels.specs.declared.borrowed.BorrowedTriple.{BorrowedTriple}
 use Rattle.dk_pqwrite.specs.FirstUses.{AreTheirs, first_uses, text_of, texts_in}
 use Rattle.dk_pqwrite.proofs.AddingPlain.{entries_more, single}
 
@@ -158,7 +158,7 @@ kept_more keys new places texts most place key h e stored =
       few = rw e (few_more (list_any (λ (k : Key). pointwise nat_eq key.now k.now) keys) keys key most h.few);
     }
 
-module _ (triples : List Triple) (i : ℕ) (t : Triple) (within : i < length triples) (there : t ≡ get_or triples i t) where
+module _ (triples : List BorrowedTriple) (i : ℕ) (t : BorrowedTriple) (within : i < length triples) (there : t ≡ get_or triples i t) where
   pub texts_more : (b : Option Text) → b ≡ option_and_then text_of (entry_of t).value → texts_in (map entry_of (take (i + 1) triples)) ≡ texts_in (map entry_of (take i triples)) ++ option_to_list b
   texts_more b e =
       let both = filter_map-append (λ (x : Entry). option_and_then text_of x.value) (map entry_of (take i triples)) (entry_of t ∷ []) in

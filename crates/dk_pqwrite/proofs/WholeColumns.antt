@@ -4,12 +4,12 @@ use Rattle.std.specs.declared.alloc.Global.{Global}
 use Rattle.std.proofs.lemmas.List.{append-nil, length-append, map-append, take_more, take_all}
 use Rattle.std.proofs.lemmas.List.Elements.{All-nil, All-push}
 use Rattle.std.proofs.lemmas.List.Sums.{sum_by-append, sum_by-cons}
-use Rattle.dk_pqmodel.specs.ColumnView.{entry_of, column_of, columns_of}
+use Rattle.dk_levels.specs.Borrowed.{entry_of, column_of, columns_of}
 use Rattle.dk_pqmodel.specs.Datum.{Column}
 use Rattle.dk_pqmodel.specs.FileMeans.{HasTriples}
 use Rattle.dk_pqmodel.specs.FilePages.{ColumnAt}
 use Rattle.dk_pqmodel.specs.Weight.{column_bytes}
-use Rattle.dk_pqmodel.specs.declared.columns.Triple.{Triple}
+use Rattle.dk_levels.specs.declared.borrowed.BorrowedTriple.{BorrowedTriple}
 use Rattle.dk_pqwrite.specs.declared.chunk.Chunk.{Chunk}
 use Rattle.dk_pqwrite.specs.declared.leaves.SchemaLeaf.{SchemaLeaf}
 use Rattle.dk_pqwrite.specs.Chunks.{IsFit, chunk_view, path_of_chunk}
@@ -54,7 +54,7 @@ one_more cs ts ks c t k old middle new h g = record {
 -- ---- the loop
 
 -- so many columns are written, and the others can be
-pub record GoesOn (columns : List (Vec Triple Global)) (place : ℕ) (all rest : List ColumnAt) (chunks : List Chunk) (old now : List ℕ) : Type 0 where
+pub record GoesOn (columns : List (Vec BorrowedTriple Global)) (place : ℕ) (all rest : List ColumnAt) (chunks : List Chunk) (old now : List ℕ) : Type 0 where
   pub done : List ColumnAt
   pub whole : all ≡ done ++ rest
   pub written : WritesColumns done (columns_of (take place columns)) chunks old now
@@ -70,10 +70,10 @@ none_written bytes = record {
   size = omega arith;
 }
 
-pub begun : (columns : List (Vec Triple Global)) (all : List ColumnAt) (bytes : List ℕ) → AreWritable all (columns_of columns) → GoesOn columns 0 all all [] bytes bytes
+pub begun : (columns : List (Vec BorrowedTriple Global)) (all : List ColumnAt) (bytes : List ℕ) → AreWritable all (columns_of columns) → GoesOn columns 0 all all [] bytes bytes
 begun columns all bytes h = record { done = []; whole = refl; written = none_written bytes; left = h }
 
-module _ (columns : List (Vec Triple Global)) (place : ℕ) (column : Vec Triple Global) (room : place < length columns) (is : column ≡ get_or columns place column) where
+module _ (columns : List (Vec BorrowedTriple Global)) (place : ℕ) (column : Vec BorrowedTriple Global) (room : place < length columns) (is : column ≡ get_or columns place column) where
   -- the columns that are left
   left_are : (rest : List ColumnAt) → AreWritable rest (columns_of (drop place columns)) → AreWritable rest (column_of column ∷ columns_of (drop (place + 1) columns))
   left_are rest h = subst (λ ts. AreWritable rest (columns_of ts)) (drop_next columns place column room is) h
@@ -106,7 +106,7 @@ none_left : (rest : List ColumnAt) → AreWritable rest [] → rest ≡ []
 none_left [] h = refl
 none_left (c ∷ cs) h = absurd h
 
-pub all_written : (columns : List (Vec Triple Global)) (place : ℕ) (all rest : List ColumnAt) (chunks : List Chunk) (old now : List ℕ) → length columns ≤ place → GoesOn columns place all rest chunks old now
+pub all_written : (columns : List (Vec BorrowedTriple Global)) (place : ℕ) (all rest : List ColumnAt) (chunks : List Chunk) (old now : List ℕ) → length columns ≤ place → GoesOn columns place all rest chunks old now
     → WritesColumns all (columns_of columns) chunks old now
 all_written columns place all rest chunks old now past h =
     let none : rest ≡ [] = none_left rest (subst (λ ts. AreWritable rest (columns_of ts)) (drop_past columns place past) h.left) in
@@ -114,16 +114,16 @@ all_written columns place all rest chunks old now past h =
     subst (λ cs. WritesColumns cs (columns_of columns) chunks old now) whole (subst (λ ts. WritesColumns h.done (columns_of ts) chunks old now) (take_all place columns past) h.written)
 
 -- bytes that were begun go on
-pub still_begun : (columns : List (Vec Triple Global)) (place : ℕ) (all rest : List ColumnAt) (chunks : List Chunk) (old now : List ℕ) → 0 < length old → GoesOn columns place all rest chunks old now → 0 < length now
+pub still_begun : (columns : List (Vec BorrowedTriple Global)) (place : ℕ) (all rest : List ColumnAt) (chunks : List Chunk) (old now : List ℕ) → 0 < length old → GoesOn columns place all rest chunks old now → 0 < length now
 still_begun columns place all rest chunks old now h g = omega (arith, h, ap length g.written.added, length-append old g.written.part)
 
 -- ---- a leaf taken apart
 
-pub at_any_path : (leaf : SchemaLeaf) (items triples : List Triple) → triples ≡ items → IsWritable (leaf_view leaf) (map entry_of items) → IsWritable (column_at [] leaf.column) (map entry_of triples)
+pub at_any_path : (leaf : SchemaLeaf) (items triples : List BorrowedTriple) → triples ≡ items → IsWritable (leaf_view leaf) (map entry_of items) → IsWritable (column_at [] leaf.column) (map entry_of triples)
 at_any_path leaf items triples read h =
     subst (λ ts. IsWritable (column_at [] leaf.column) (map entry_of ts)) (sym read) (record { full = h.full; fit = h.fit; few = h.few; light = h.light })
 
-pub of_leaf : (leaf : SchemaLeaf) (items triples : List Triple) (chunk : Chunk) (old new : List ℕ) → triples ≡ items → WritesColumn (leaf_view leaf) (map entry_of triples) chunk old new
+pub of_leaf : (leaf : SchemaLeaf) (items triples : List BorrowedTriple) (chunk : Chunk) (old new : List ℕ) → triples ≡ items → WritesColumn (leaf_view leaf) (map entry_of triples) chunk old new
     → WritesColumn (leaf_view leaf) (map entry_of items) chunk old new
 of_leaf leaf items triples chunk old new read h = subst (λ ts. WritesColumn (leaf_view leaf) (map entry_of ts) chunk old new) read h
 

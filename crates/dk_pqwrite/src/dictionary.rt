@@ -1,10 +1,10 @@
 //! Dictionaries of texts.
 
 ghost use Rattle.std.specs.Prelude.{◌≡◌, ◌<◌, ◌^◌, IfOk, length, map, option_and_then, option_map};
-ghost use Rattle.dk_pqmodel.specs.ColumnView.{entry_of};
+ghost use Rattle.dk_levels.specs.Borrowed.{entry_of};
 ghost use Rattle.dk_pqwrite.specs.FirstUses.{AreTheirs, first_uses, text_of, texts_in};
 
-use dk_pqmodel::{Triple, Value};
+use dk_levels::{BorrowedTriple, BorrowedValue};
 use indexmap::IndexSet;
 use std::alloc::{AllocError, Global};
 
@@ -18,7 +18,7 @@ pub(crate) struct Dictionary<'a> {
 /// The dictionary of the texts of triples. It takes time by their number and their lengths.
 pub(crate) fn dictionary_of<'a>(
     alloc: Global,
-    triples: &'a [Triple],
+    triples: &[BorrowedTriple<'a>],
 ) -> Result<Dictionary<'a>, AllocError>
     requires { length triples.now < 2 ^ 32 }
     ensures texts { IfOk result (λ d. map (λ k. k.now) d.texts.keys ≡ first_uses (texts_in (map entry_of triples.now))) }
@@ -36,11 +36,11 @@ pub(crate) fn dictionary_of<'a>(
 }
 
 /// The text that an entry has, if it has one.
-fn text_of(triple: &Triple) -> Option<&str>
+fn text_of<'a>(triple: &BorrowedTriple<'a>) -> Option<&'a str>
     ensures { option_map (λ text. text.now) result ≡ option_and_then text_of (entry_of triple.now).value }
 {
     match &triple.value {
-        Some(Value::Chars(text)) => Some(text.as_str()),
+        Some(BorrowedValue::Chars(text)) => Some(*text),
         _ => None,
     }
 }

@@ -2,16 +2,19 @@
 
 ghost use Rattle.std.specs.Prelude.{◌≡◌, ◌≤◌, ◌<◌, ◌^◌, ◌++◌, IfOk, OnOk, All, length, map};
 ghost use Rattle.dk_grammar.specs.Plain.{little};
-ghost use Rattle.dk_pqmodel.specs.ColumnView.{entry_of};
+ghost use Rattle.dk_levels.specs.Borrowed.{entry_of};
 ghost use Rattle.dk_pqmodel.specs.FilePages.{IsWidth};
 ghost use Rattle.dk_pqwrite.specs.AddedLevels.{AddsLevels};
 
 use dk_hybrid::encode;
-use dk_pqmodel::Triple;
+use dk_levels::BorrowedTriple;
 use std::alloc::{AllocError, Global};
 
 /// The repetition levels of triples.
-pub(crate) fn repetitions(alloc: Global, triples: &[Triple]) -> Result<Vec<u32>, AllocError>
+pub(crate) fn repetitions(
+    alloc: Global,
+    triples: &[BorrowedTriple<'_>],
+) -> Result<Vec<u32>, AllocError>
     ensures { IfOk result (λ v. v.items ≡ map (λ e. e.repetition) (map entry_of triples.now)) }
 {
     let mut levels = Vec::with_capacity(alloc, triples.len())?;
@@ -22,7 +25,10 @@ pub(crate) fn repetitions(alloc: Global, triples: &[Triple]) -> Result<Vec<u32>,
 }
 
 /// The definition levels of triples.
-pub(crate) fn definitions(alloc: Global, triples: &[Triple]) -> Result<Vec<u32>, AllocError>
+pub(crate) fn definitions(
+    alloc: Global,
+    triples: &[BorrowedTriple<'_>],
+) -> Result<Vec<u32>, AllocError>
     ensures { IfOk result (λ v. v.items ≡ map (λ e. e.definition) (map entry_of triples.now)) }
 {
     let mut levels = Vec::with_capacity(alloc, triples.len())?;

@@ -1,7 +1,7 @@
 //! Pages (Apache Parquet, "Data Pages").
 
 ghost use Rattle.std.specs.Prelude.{◌≡◌, ◌+◌, ◌*◌, ◌<◌, ◌≤◌, ◌^◌, All, IfOk, None, OnOk, Some, [], length, map, pos};
-ghost use Rattle.dk_pqmodel.specs.ColumnView.{entry_of};
+ghost use Rattle.dk_levels.specs.Borrowed.{entry_of};
 ghost use Rattle.dk_pqmodel.specs.Datum.{chars};
 ghost use Rattle.dk_pqmodel.specs.FilePages.{AreFull, IsDataV1, IsDictionary, IsPage};
 ghost use Rattle.dk_pqmodel.specs.Laid.{Path};
@@ -19,7 +19,7 @@ use crate::header::{PLAIN, RLE_DICTIONARY, data_header, dictionary_header};
 use crate::levels::{add_levels, definitions, repetitions};
 use crate::places::add_places;
 use crate::values::{add_plain, add_text};
-use dk_pqmodel::Triple;
+use dk_levels::BorrowedTriple;
 use std::alloc::{AllocError, Global};
 
 /// Adds a data page of the first version with the triples, whose values are in the encoding PLAIN.
@@ -27,7 +27,7 @@ pub(crate) fn add_plain_page(
     alloc: Global,
     out: &mut Vec<u8>,
     column: LeafColumn,
-    triples: &[Triple],
+    triples: &[BorrowedTriple<'_>],
 ) -> Result<(), AllocError>
     requires full { AreFull (column_at [] column) (map entry_of triples.now) }
     requires fit { All (FitsEntry (leaf_of column.kind)) (map entry_of triples.now) }
@@ -47,7 +47,7 @@ pub(crate) fn add_coded_page(
     out: &mut Vec<u8>,
     column: LeafColumn,
     dictionary: &Dictionary<'_>,
-    triples: &[Triple],
+    triples: &[BorrowedTriple<'_>],
 ) -> Result<(), AllocError>
     requires full { AreFull (column_at [] column) (map entry_of triples.now) }
     requires kind { leaf_of column.kind ≡ shape_chars }
@@ -95,7 +95,11 @@ fn texts_in_plain(alloc: Global, texts: &[&str]) -> Result<Vec<u8>, AllocError>
 }
 
 /// A body begun: the levels of the triples.
-fn levels_of(alloc: Global, column: LeafColumn, triples: &[Triple]) -> Result<Vec<u8>, AllocError>
+fn levels_of(
+    alloc: Global,
+    column: LeafColumn,
+    triples: &[BorrowedTriple<'_>],
+) -> Result<Vec<u8>, AllocError>
     requires full { AreFull (column_at [] column) (map entry_of triples.now) }
     requires few { length triples.now ≤ 2 ^ 26 }
     ensures { IfOk result (λ v. HoldBoth column (map entry_of triples.now) v.items) }

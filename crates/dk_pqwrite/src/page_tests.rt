@@ -4,26 +4,22 @@ use crate::dictionary::dictionary_of;
 use crate::flags::add_flags;
 use crate::levels::add_levels;
 use crate::page::add_dictionary_page;
-use dk_pqmodel::{Triple, Value};
+use dk_levels::{BorrowedTriple, BorrowedValue};
 use std::alloc::{AllocError, Global};
 use std::test::Fail;
 
-fn triple(alloc: Global, text: &str) -> Result<Triple, AllocError> {
-    Ok(Triple {
+fn triple(text: &str) -> BorrowedTriple<'_> {
+    BorrowedTriple {
         repetition: 0,
         definition: 1,
-        value: Some(Value::Chars(String::from_str(alloc, text)?)),
-    })
+        value: Some(BorrowedValue::Chars(text)),
+    }
 }
 
 #[test]
 fn a_dictionary_of_two_texts(rt: HostRuntime) -> Result<(), Fail> {
     let alloc = rt.alloc();
-    let triples = [
-        triple(alloc, "x")?,
-        triple(alloc, "x")?,
-        triple(alloc, "y")?,
-    ];
+    let triples = [triple("x"), triple("x"), triple("y")];
     let dictionary = dictionary_of(alloc, &triples)?;
     assert_eq!(rt; dictionary.texts.as_slice(), ["x", "y"].as_slice());
     assert_eq!(rt; dictionary.places.as_slice(), [0, 0, 1].as_slice());

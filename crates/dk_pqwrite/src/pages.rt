@@ -1,7 +1,7 @@
 //! The pages of a column, and the chunk that says where they stand.
 
 ghost use Rattle.std.specs.Prelude.{◌≡◌, ◌<◌, ◌≤◌, [], true, false, IfOk, is_some, length, map, pos, string_bytes};
-ghost use Rattle.dk_pqmodel.specs.ColumnView.{entry_of};
+ghost use Rattle.dk_levels.specs.Borrowed.{entry_of};
 ghost use Rattle.dk_pqmodel.specs.FilePages.{physical_type};
 ghost use Rattle.dk_pqmodel.specs.Shape.{chars as shape_chars};
 ghost use Rattle.dk_pqwrite.specs.Writable.{IsWritable};
@@ -12,7 +12,7 @@ use crate::chunk::Chunk;
 use crate::column::{LeafColumn, LeafKind};
 use crate::dictionary::dictionary_of;
 use crate::page::{add_coded_page, add_dictionary_page, add_plain_page};
-use dk_pqmodel::Triple;
+use dk_levels::BorrowedTriple;
 use std::alloc::{AllocError, Global};
 
 /// Adds the pages of a column, and answers what a footer says of them: a data page with all triples and, for texts where a dictionary is
@@ -22,7 +22,7 @@ pub(crate) fn write_column(
     out: &mut Vec<u8>,
     path: Vec<String>,
     column: LeafColumn,
-    triples: &[Triple],
+    triples: &[BorrowedTriple<'_>],
     dictionary: bool,
 ) -> Result<Chunk, AllocError>
     requires begun { 0 < length out.old.items }
@@ -42,7 +42,7 @@ fn write_plain(
     out: &mut Vec<u8>,
     path: Vec<String>,
     column: LeafColumn,
-    triples: &[Triple],
+    triples: &[BorrowedTriple<'_>],
 ) -> Result<Chunk, AllocError>
     requires { IsWritable (column_at [] column) (map entry_of triples.now) }
     ensures written { IfOk result (λ chunk. WritesColumn (column_at (map string_bytes path.items) column) (map entry_of triples.now) chunk out.old.items out.new.items) }
@@ -67,7 +67,7 @@ fn write_coded(
     out: &mut Vec<u8>,
     path: Vec<String>,
     column: LeafColumn,
-    triples: &[Triple],
+    triples: &[BorrowedTriple<'_>],
 ) -> Result<Chunk, AllocError>
     requires begun { 0 < length out.old.items }
     requires kind { leaf_of column.kind ≡ shape_chars }

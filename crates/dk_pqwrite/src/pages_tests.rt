@@ -1,7 +1,7 @@
 //! Columns as pages, byte by byte. The bytes were made by hand from the format's structs.
 
 ghost use Rattle.std.specs.Prelude.{◌≡◌, [], IfOk, map};
-ghost use Rattle.dk_pqmodel.specs.ColumnView.{entry_of};
+ghost use Rattle.dk_levels.specs.Borrowed.{entry_of};
 ghost use Rattle.dk_pqmodel.specs.Datum.{chars};
 ghost use Rattle.dk_pqwrite.specs.Writable.{IsWritable};
 ghost use Rattle.dk_pqwrite.specs.WrittenColumn.{column_at};
@@ -10,7 +10,7 @@ use crate::chunk::Chunk;
 use crate::column::{LeafColumn, LeafKind};
 use crate::footer::MAGIC;
 use crate::pages::write_column;
-use dk_pqmodel::{Triple, Value};
+use dk_levels::{BorrowedTriple, BorrowedValue};
 use std::alloc::{AllocError, Global};
 use std::test::Fail;
 
@@ -49,28 +49,28 @@ fn path(alloc: Global) -> Result<Vec<String>, AllocError> {
 }
 
 /// A text that isn't null.
-fn triple(alloc: Global, text: &str) -> Result<Triple, AllocError>
-    ensures { IfOk result (λ t. entry_of t ≡ record { repetition = 0; definition = 1; value = Some (chars text.now) }) }
+fn triple(text: &str) -> BorrowedTriple<'_>
+    ensures { entry_of result ≡ record { repetition = 0; definition = 1; value = Some (chars text.now) } }
 {
-    Ok(Triple {
+    BorrowedTriple {
         repetition: 0,
         definition: 1,
-        value: Some(Value::Chars(String::from_str(alloc, text)?)),
-    })
+        value: Some(BorrowedValue::Chars(text)),
+    }
 }
 
 /// The texts `x`, `x` and `y`.
-fn two_texts(alloc: Global) -> Result<Vec<Triple>, AllocError>
+fn two_texts(alloc: Global) -> Result<Vec<BorrowedTriple<'static>>, AllocError>
     ensures { IfOk result (λ v. IsWritable (column_at [] TEXTS) (map entry_of v.items)) }
 {
     let mut triples = Vec::new(alloc);
-    triples.push(triple(alloc, "x")?)?;
-    triples.push(triple(alloc, "x")?)?;
-    triples.push(triple(alloc, "y")?)?;
+    triples.push(triple("x"))?;
+    triples.push(triple("x"))?;
+    triples.push(triple("y"))?;
     Ok(triples)
 }
 
-fn no_triples(alloc: Global) -> Vec<Triple>
+fn no_triples(alloc: Global) -> Vec<BorrowedTriple<'static>>
     ensures { IsWritable (column_at [] TEXTS) (map entry_of result.items) }
 {
     Vec::new(alloc)

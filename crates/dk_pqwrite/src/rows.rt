@@ -1,7 +1,7 @@
 //! Whole files from rows.
 
 ghost use Rattle.std.specs.Prelude.{◌<◌, ◌≤◌, IfOk, length, map};
-ghost use Rattle.dk_pqmodel.specs.ColumnView.{columns_of};
+ghost use Rattle.dk_levels.specs.Borrowed.{columns_of};
 ghost use Rattle.dk_pqmodel.specs.FileMeans.{FileMeans};
 ghost use Rattle.dk_pqmodel.specs.Fits.{Fit};
 ghost use Rattle.dk_pqmodel.specs.RowView.{rows_of};
@@ -15,8 +15,8 @@ use crate::chunk::Chunk;
 use crate::footer::{MAGIC, end_file};
 use crate::leaves::{SchemaLeaf, leaves_of};
 use crate::pages::write_column;
-use dk_levels::shred;
-use dk_pqmodel::{Row, Schema, Triple};
+use dk_levels::{BorrowedTriple, shred_borrowed};
+use dk_pqmodel::{Row, Schema};
 use std::alloc::{AllocError, Global};
 
 /// The bytes of a Parquet file that holds the rows (Apache Parquet).
@@ -35,11 +35,11 @@ pub fn write_rows(
     ensures means { IfOk result (λ v. FileMeans (fields_in schema.now) v.items (rows_of rows.now)) }
     ensures small { IfOk result (λ v. length v.items ≤ most_bytes (fields_in schema.now) (rows_of rows.now)) }
 {
-    let columns = shred(alloc, schema, rows)?;
+    let columns = shred_borrowed(alloc, schema, rows)?;
     let leaves = leaves_of(alloc, schema)?;
     let mut bytes = Vec::new(alloc);
     bytes.extend_from_slice(MAGIC)?;
-    let chunks = write_columns(alloc, &mut bytes, leaves, &columns.leaves, dictionary)?;
+    let chunks = write_columns(alloc, &mut bytes, leaves, &columns, dictionary)?;
     let size = bytes.len() - MAGIC.len();
     end_file(
         alloc,
@@ -57,7 +57,7 @@ fn write_columns(
     alloc: Global,
     out: &mut Vec<u8>,
     leaves: Vec<SchemaLeaf>,
-    columns: &[Vec<Triple>],
+    columns: &[Vec<BorrowedTriple<'_>>],
     dictionary: bool,
 ) -> Result<Vec<Chunk>, AllocError>
     requires begun { 0 < length out.old.items }

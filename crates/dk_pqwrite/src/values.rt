@@ -1,7 +1,7 @@
 //! Values in the encoding PLAIN (Apache Parquet, "Plain").
 
 ghost use Rattle.std.specs.Prelude.{◌≡◌, ◌≢◌, ◌∷◌, [], ◌+◌, ◌<◌, ◌^◌, All, IfOk, IsTrue, OnOk, length, map, option_and_then};
-ghost use Rattle.dk_pqmodel.specs.ColumnView.{entry_of, value_of};
+ghost use Rattle.dk_levels.specs.Borrowed.{entry_of, value_of};
 ghost use Rattle.dk_pqmodel.specs.Datum.{chars, int};
 ghost use Rattle.dk_pqmodel.specs.FilePages.{InPlain};
 ghost use Rattle.dk_pqmodel.specs.Fits.{fits_leaf};
@@ -14,7 +14,7 @@ ghost use Rattle.dk_pqwrite.specs.WrittenColumn.{leaf_of, values_in};
 use crate::column::LeafKind;
 use crate::flags::add_flags;
 use crate::levels::add_sized;
-use dk_pqmodel::{Triple, Value};
+use dk_levels::{BorrowedTriple, BorrowedValue};
 use std::alloc::{AllocError, Global};
 
 /// Adds the values of triples, one behind another, and flags bit by bit.
@@ -22,7 +22,7 @@ pub(crate) fn add_plain(
     alloc: Global,
     out: &mut Vec<u8>,
     kind: LeafKind,
-    triples: &[Triple],
+    triples: &[BorrowedTriple<'_>],
 ) -> Result<(), AllocError>
     requires { All (FitsEntry (leaf_of kind)) (map entry_of triples.now) }
     ensures { OnOk result (Adds (InPlain (leaf_of kind) (values_in (map entry_of triples.now))) (plain_size (values_in (map entry_of triples.now))) out.old.items out.new.items) }
@@ -36,7 +36,7 @@ pub(crate) fn add_plain(
     }
 }
 
-fn flags_in(alloc: Global, triples: &[Triple]) -> Result<Vec<bool>, AllocError>
+fn flags_in(alloc: Global, triples: &[BorrowedTriple<'_>]) -> Result<Vec<bool>, AllocError>
     ensures { IfOk result (λ v. v.items ≡ flags_in (map entry_of triples.now)) }
 {
     let mut flags = Vec::new(alloc);
@@ -49,17 +49,21 @@ fn flags_in(alloc: Global, triples: &[Triple]) -> Result<Vec<bool>, AllocError>
 }
 
 /// The flag that an entry has, if it has one.
-fn flag_of(triple: &Triple) -> Option<bool>
+fn flag_of(triple: &BorrowedTriple<'_>) -> Option<bool>
     ensures { result ≡ option_and_then flag_of (entry_of triple.now).value }
 {
     match &triple.value {
-        Some(Value::Flag(flag)) => Some(*flag),
+        Some(BorrowedValue::Flag(flag)) => Some(*flag),
         _ => None,
     }
 }
 
 /// Adds numbers or texts.
-fn add_values(out: &mut Vec<u8>, kind: LeafKind, triples: &[Triple]) -> Result<(), AllocError>
+fn add_values(
+    out: &mut Vec<u8>,
+    kind: LeafKind,
+    triples: &[BorrowedTriple<'_>],
+) -> Result<(), AllocError>
     requires kind { leaf_of kind ≢ shape_flag }
     requires fit { All (FitsEntry (leaf_of kind)) (map entry_of triples.now) }
     ensures { OnOk result (Adds (ArePlain (leaf_of kind) (values_in (map entry_of triples.now))) (plain_size (values_in (map entry_of triples.now))) out.old.items out.new.items) }
@@ -72,16 +76,16 @@ fn add_values(out: &mut Vec<u8>, kind: LeafKind, triples: &[Triple]) -> Result<(
     Ok(())
 }
 
-fn add_value(out: &mut Vec<u8>, kind: LeafKind, value: &Value) -> Result<(), AllocError>
+fn add_value(out: &mut Vec<u8>, kind: LeafKind, value: &BorrowedValue<'_>) -> Result<(), AllocError>
     requires kind { leaf_of kind ≢ shape_flag }
     requires fits { IsTrue (fits_leaf (value_of value.now) (leaf_of kind)) }
     requires short { text_length (value_of value.now) < 2 ^ 32 }
     ensures { OnOk result (Adds (ArePlain (leaf_of kind) (value_of value.now ∷ [])) (8 + text_length (value_of value.now)) out.old.items out.new.items) }
 {
     match value {
-        Value::Flag(_) => unreachable!(),
-        Value::Int(number) => add_number(out, kind, *number),
-        Value::Chars(text) => add_text(out, text.as_str()),
+        BorrowedValue::Flag(_) => unreachable!(),
+        BorrowedValue::Int(number) => add_number(out, kind, *number),
+        BorrowedValue::Chars(text) => add_text(out, text),
     }
 }
 

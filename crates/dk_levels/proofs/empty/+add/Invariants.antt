@@ -2,7 +2,7 @@ use Rattle.std.proofs.Common.{◌≡◌, ◌++◌, drop}
 use Rattle.dk_pqmodel.specs.Shape.{width_of}
 use Rattle.dk_pqmodel.specs.Triples.{empty_columns}
 use Rattle.dk_pqmodel.specs.NodeView.{fields_of}
-use Rattle.dk_pqmodel.specs.ColumnView.{columns_of}
+use Rattle.dk_levels.specs.Borrowed.{columns_of}
 use Rattle.dk_levels.proofs.empty.+add.Given as goal
 
 abbrev pub invariant-add_columns-loop-node : goal.invariant-add_columns-loop-node

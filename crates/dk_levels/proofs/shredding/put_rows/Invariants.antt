@@ -3,7 +3,7 @@ use Rattle.dk_pqmodel.specs.Shape.{root}
 use Rattle.dk_pqmodel.specs.Triples.{joined, later_triples}
 use Rattle.dk_pqmodel.specs.NodeView.{fields_of}
 use Rattle.dk_pqmodel.specs.RowView.{rows_of}
-use Rattle.dk_pqmodel.specs.ColumnView.{columns_of}
+use Rattle.dk_levels.specs.Borrowed.{columns_of}
 use Rattle.dk_levels.specs.Places.{from}
 use Rattle.dk_levels.proofs.Pending.{RowsPending}
 use Rattle.dk_levels.proofs.shredding.put_rows.Given as goal

@@ -3,7 +3,7 @@ use Rattle.dk_pqmodel.specs.Shape.{width_of}
 use Rattle.dk_pqmodel.specs.Triples.{joined, group_triples, later_triples}
 use Rattle.dk_pqmodel.specs.NodeView.{fields_of, field_of}
 use Rattle.dk_pqmodel.specs.RowView.{cells_of}
-use Rattle.dk_pqmodel.specs.ColumnView.{columns_of}
+use Rattle.dk_levels.specs.Borrowed.{columns_of}
 use Rattle.dk_levels.specs.Places.{from}
 use Rattle.dk_levels.specs.Repeated.{element_of}
 use Rattle.dk_levels.proofs.Pending.{GroupPending, LaterPending}

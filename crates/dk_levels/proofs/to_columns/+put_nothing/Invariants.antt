@@ -3,7 +3,7 @@ use Rattle.dk_pqmodel.specs.Datum.{one_entry}
 use Rattle.dk_pqmodel.specs.Shape.{width_of, width_at}
 use Rattle.dk_pqmodel.specs.Triples.{joined, nothing}
 use Rattle.dk_pqmodel.specs.NodeView.{fields_of, shape_of}
-use Rattle.dk_pqmodel.specs.ColumnView.{columns_of}
+use Rattle.dk_levels.specs.Borrowed.{columns_of}
 use Rattle.dk_levels.specs.Places.{from}
 use Rattle.dk_levels.proofs.Pending.{Pending}
 use Rattle.dk_levels.proofs.to_columns.+put_nothing.Given as goal

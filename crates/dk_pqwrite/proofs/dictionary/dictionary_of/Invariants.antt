@@ -1,5 +1,5 @@
 use Rattle.std.proofs.Common.{map, take}
-use Rattle.dk_pqmodel.specs.ColumnView.{entry_of}
+use Rattle.dk_levels.specs.Borrowed.{entry_of}
 use Rattle.dk_pqwrite.specs.FirstUses.{texts_in}
 use Rattle.dk_pqwrite.proofs.Uses.{Kept}
 use Rattle.dk_pqwrite.proofs.dictionary.dictionary_of.Given as goal

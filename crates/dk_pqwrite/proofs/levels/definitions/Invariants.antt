@@ -1,5 +1,5 @@
 use Rattle.std.proofs.Common.{◌≡◌, map, take}
-use Rattle.dk_pqmodel.specs.ColumnView.{entry_of}
+use Rattle.dk_levels.specs.Borrowed.{entry_of}
 use Rattle.dk_pqwrite.proofs.levels.definitions.Given as goal
 
 abbrev pub invariant-loop-triple : goal.invariant-loop-triple

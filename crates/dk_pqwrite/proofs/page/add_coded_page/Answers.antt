@@ -1,7 +1,7 @@
 use Rattle.std.proofs.Common.{◌<◌, ◌≤◌, ◌≡◌, ◌+◌, ◌*◌, ◌^◌, ◌∙◌, length, map, ap, arith}
 use Rattle.std.proofs.lemmas.List.{length-map}
 use Rattle.std.proofs.lemmas.Result.{on_ok_weaker}
-use Rattle.dk_pqmodel.specs.ColumnView.{entry_of}
+use Rattle.dk_levels.specs.Borrowed.{entry_of}
 use Rattle.dk_pqmodel.specs.Datum.{chars}
 use Rattle.dk_pqwrite.specs.FirstUses.{texts_in}
 use Rattle.dk_pqwrite.specs.WrittenColumn.{values_in}

@@ -1,7 +1,7 @@
 use Rattle.std.proofs.Common.{◌<◌, ◌≤◌, ◌+◌, ◌*◌, ◌^◌, length, map, arith}
 use Rattle.std.proofs.lemmas.List.{length-map}
 use Rattle.std.proofs.lemmas.Result.{on_ok_weaker}
-use Rattle.dk_pqmodel.specs.ColumnView.{entry_of}
+use Rattle.dk_levels.specs.Borrowed.{entry_of}
 use Rattle.dk_pqwrite.specs.PlainValues.{plain_size}
 use Rattle.dk_pqwrite.specs.WrittenColumn.{values_in}
 use Rattle.dk_pqwrite.proofs.BuildingPages.{body_short, plain_page, weighs}

@@ -1,5 +1,5 @@
 use Rattle.std.proofs.Common.{map, sym, arith}
-use Rattle.dk_pqmodel.specs.ColumnView.{entry_of}
+use Rattle.dk_levels.specs.Borrowed.{entry_of}
 use Rattle.dk_pqwrite.specs.AddedLevels.{AddsLevels}
 use Rattle.dk_pqwrite.proofs.AddingLevels.{both_levels, no_levels}
 use Rattle.dk_pqwrite.proofs.BuildingPages.{definitions_within, repetitions_within}

@@ -1,6 +1,6 @@
 use Rattle.std.proofs.Common.{◌-◌, Some, [], length, map, string_bytes, refl, sym, ap, arith}
 use Rattle.std.proofs.lemmas.List.{length-map}
-use Rattle.dk_pqmodel.specs.ColumnView.{entry_of}
+use Rattle.dk_levels.specs.Borrowed.{entry_of}
 use Rattle.dk_pqwrite.specs.declared.chunk.Chunk.{Chunk}
 use Rattle.dk_pqwrite.proofs.Uses.{shown}
 use Rattle.dk_pqwrite.proofs.WritingColumns.{coded_written, distinct_few, distinct_light, distinct_small, grows}

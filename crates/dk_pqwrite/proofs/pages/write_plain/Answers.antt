@@ -1,6 +1,6 @@
 use Rattle.std.proofs.Common.{◌-◌, None, [], length, map, string_bytes, refl, sym, arith}
 use Rattle.std.proofs.lemmas.List.{length-map}
-use Rattle.dk_pqmodel.specs.ColumnView.{entry_of}
+use Rattle.dk_levels.specs.Borrowed.{entry_of}
 use Rattle.dk_pqwrite.specs.declared.chunk.Chunk.{Chunk}
 use Rattle.dk_pqwrite.proofs.WritingColumns.{grows, plain_written}
 use Rattle.dk_pqwrite.proofs.pages.write_plain.Goals as goal

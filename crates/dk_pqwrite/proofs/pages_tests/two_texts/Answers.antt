@@ -1,7 +1,7 @@
 use Rattle.std.proofs.Common.{◌≡◌, ◌≤◌, lit≤, lit<, Some, [], ◌∷◌, map, refl, sym, ap, subst, ◌∙◌}
 use Rattle.std.specs.List.{All}
 use Rattle.std.proofs.lemmas.List.Elements.{All-nil, All-cons}
-use Rattle.dk_pqmodel.specs.ColumnView.{entry_of}
+use Rattle.dk_levels.specs.Borrowed.{entry_of}
 use Rattle.dk_pqmodel.specs.FilePages.{IsFull}
 use Rattle.dk_pqmodel.specs.Datum.{Entry, Column, chars}
 use Rattle.dk_pqmodel.specs.Shape as shape
@@ -31,10 +31,10 @@ each e f g h i j = rw (h, i, j) refl
 
 pub returns : goal.returns
 returns c =
-    let a = c.in_ok-triple.field-0 in
-    let b = c.in_ok-triple-2.field-0 in
-    let d = c.in_ok-triple-3.field-0 in
+    let a = c.triple.result in
+    let b = c.triple-2.result in
+    let d = c.triple-3.result in
     let pushed : c.push-3.new.self.items ≡ a ∷ b ∷ d ∷ [] = rw (c.in_ok-push-3.ensures.items, c.in_ok-push-2.ensures.items, c.in_ok-push.ensures.items, c.new-triples.ensures.items) refl in
     let are : map entry_of c.push-3.new.self.items ≡ x ∷ x ∷ y ∷ [] =
-    ap (map entry_of) pushed ∙ each (entry_of a) (entry_of b) (entry_of d) c.in_ok-triple.ensures c.in_ok-triple-2.ensures c.in_ok-triple-3.ensures in
+    ap (map entry_of) pushed ∙ each (entry_of a) (entry_of b) (entry_of d) c.triple.ensures c.triple-2.ensures c.triple-3.ensures in
     subst (λ (es : Column). IsWritable (record { path = []; kind = shape.chars; rep = 0; def = 1 }) es) (sym are) writable

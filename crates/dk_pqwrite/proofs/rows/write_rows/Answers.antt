@@ -1,6 +1,6 @@
 use Rattle.std.proofs.Common.{rules, ◌≡◌, [], length, map, ap, ◌∙◌}
 use Rattle.dk_pqmodel.proofs.Fitting.{fitting_rows_match}
-use Rattle.dk_pqmodel.specs.ColumnView.{columns_of}
+use Rattle.dk_levels.specs.Borrowed.{columns_of}
 use Rattle.dk_pqmodel.specs.FooterBytes.{magic}
 use Rattle.dk_pqmodel.specs.RowView.{rows_of}
 use Rattle.dk_pqmodel.specs.SchemaView.{fields_in}
@@ -13,14 +13,14 @@ use Rattle.dk_pqwrite.proofs.WholeColumns.{of_schema}
 use Rattle.dk_pqwrite.proofs.WholeFiles.{few_bytes, file_means}
 use Rattle.dk_pqwrite.proofs.rows.write_rows.Goals as goal
 
-pub shred-requires : goal.shred-requires
-shred-requires c = fitting_rows_match (fields_in c.args.schema.now) (rows_of c.args.rows.now) c.requires.fit
+pub shred_borrowed-requires : goal.shred_borrowed-requires
+shred_borrowed-requires c = fitting_rows_match (fields_in c.args.schema.now) (rows_of c.args.rows.now) c.requires.fit
 
 pub write_columns-requires-clause-writable : goal.write_columns-requires-clause-writable
 write_columns-requires-clause-writable c =
     let fs = fields_in c.args.schema.now in
     let rows = rows_of c.args.rows.now in
-    let read : c.deref.result.now ≡ c.in_ok-columns.columns.leaves.items = search rules in
+    let read : c.deref.result.now ≡ c.in_ok-columns.columns.items = search rules in
     let cut : columns_of c.deref.result.now ≡ triples fs rows = ap columns_of read ∙ c.in_ok-columns.ensures in
     rw (c.in_ok-leaves.ensures, cut) (shredded_writable fs rows c.args.schema.now.is_schema c.requires.fit c.requires.light)
 
@@ -28,7 +28,7 @@ pub returns-clause-means : goal.returns-clause-means
 returns-clause-means c =
     let fs = fields_in c.args.schema.now in
     let rows = rows_of c.args.rows.now in
-    let read : c.deref.result.now ≡ c.in_ok-columns.columns.leaves.items = search rules in
+    let read : c.deref.result.now ≡ c.in_ok-columns.columns.items = search rules in
     let cut : columns_of c.deref.result.now ≡ triples fs rows = ap columns_of read ∙ c.in_ok-columns.ensures in
     let started : c.extend_from_slice.new.self.items ≡ magic = search rules in
     let same : c.deref-2.result.now ≡ c.in_ok-chunks.chunks.items = search rules in
@@ -41,7 +41,7 @@ pub returns-clause-small : goal.returns-clause-small
 returns-clause-small c =
     let fs = fields_in c.args.schema.now in
     let rows = rows_of c.args.rows.now in
-    let read : c.deref.result.now ≡ c.in_ok-columns.columns.leaves.items = search rules in
+    let read : c.deref.result.now ≡ c.in_ok-columns.columns.items = search rules in
     let cut : columns_of c.deref.result.now ≡ triples fs rows = ap columns_of read ∙ c.in_ok-columns.ensures in
     let started : c.extend_from_slice.new.self.items ≡ magic = search rules in
     let same : c.deref-2.result.now ≡ c.in_ok-chunks.chunks.items = search rules in

@@ -1,5 +1,5 @@
 use Rattle.std.proofs.lemmas.Result.{on_ok_weaker}
-use Rattle.dk_pqmodel.specs.ColumnView.{entry_of}
+use Rattle.dk_levels.specs.Borrowed.{entry_of}
 use Rattle.std.proofs.Common.{map}
 use Rattle.dk_pqwrite.proofs.AddingPlain.{flags_in_plain}
 use Rattle.dk_pqwrite.proofs.values.add_plain.Goals as goal

@@ -1,5 +1,5 @@
 use Rattle.std.proofs.Common.{map, take}
-use Rattle.dk_pqmodel.specs.ColumnView.{entry_of}
+use Rattle.dk_levels.specs.Borrowed.{entry_of}
 use Rattle.dk_pqwrite.specs.Adding.{Adds}
 use Rattle.dk_pqwrite.specs.PlainValues.{ArePlain, plain_size}
 use Rattle.dk_pqwrite.specs.WrittenColumn.{leaf_of, values_in}

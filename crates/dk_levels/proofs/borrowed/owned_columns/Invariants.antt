@@ -1,0 +1,7 @@
+use Rattle.std.proofs.Common.{◌≡◌, take}
+use Rattle.dk_pqmodel.specs.ColumnView.{columns_of as owned_columns_of}
+use Rattle.dk_levels.specs.Borrowed.{columns_of}
+use Rattle.dk_levels.proofs.borrowed.owned_columns.Given as goal
+
+abbrev pub invariant-loop-column : goal.invariant-loop-column
+invariant-loop-column l = owned_columns_of l.leaves.items ≡ columns_of (take l.column-index l.columns)

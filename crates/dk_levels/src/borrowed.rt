@@ -1,0 +1,75 @@
+//! Triples that borrow their texts from rows.
+
+ghost use Rattle.std.specs.Prelude.{◌≡◌, IfOk, map};
+ghost use Rattle.dk_pqmodel.specs.ColumnView.{columns_in, column_of as owned_column_of, entry_of as owned_entry_of, value_of as owned_value_of};
+ghost use Rattle.dk_levels.specs.Borrowed.{columns_of, entry_of, value_of};
+
+use dk_pqmodel::{Columns, Triple, Value};
+use std::alloc::{AllocError, Global};
+
+/// What a leaf of rows holds where it isn't null.
+#[derive(Clone, Copy, Debug)]
+pub enum BorrowedValue<'a> {
+    Flag(bool),
+    Int(i64),
+    Chars(&'a str),
+}
+
+/// One entry of a column of rows, as a `Triple` is, but that its text is that of the rows.
+#[derive(Clone, Copy, Debug)]
+pub struct BorrowedTriple<'a> {
+    /// How many lists go on here: 0 begins a row, the number k begins a later element of the k-th list around the leaf.
+    pub repetition: u8,
+    /// How many of the optional fields and lists on the leaf's path are there.
+    pub definition: u8,
+    /// The leaf's value, where nothing on its path is null or empty.
+    pub value: Option<BorrowedValue<'a>>,
+}
+
+/// Columns of the same content with texts of their own.
+pub(crate) fn owned_columns(
+    alloc: Global,
+    columns: &[Vec<BorrowedTriple<'_>>],
+) -> Result<Columns, AllocError>
+    ensures { IfOk result (λ c. columns_in c ≡ columns_of columns.now) }
+{
+    let mut leaves = Vec::with_capacity(alloc, columns.len())?;
+    for column in columns {
+        leaves.push(owned_column(alloc, column)?)?;
+    }
+    Ok(Columns { leaves })
+}
+
+fn owned_column(alloc: Global, column: &[BorrowedTriple<'_>]) -> Result<Vec<Triple>, AllocError>
+    ensures { IfOk result (λ v. owned_column_of v ≡ map entry_of column.now) }
+{
+    let mut out = Vec::with_capacity(alloc, column.len())?;
+    for triple in column {
+        out.push(owned_triple(alloc, triple)?)?;
+    }
+    Ok(out)
+}
+
+fn owned_triple(alloc: Global, triple: &BorrowedTriple<'_>) -> Result<Triple, AllocError>
+    ensures { IfOk result (λ t. owned_entry_of t ≡ entry_of triple.now) }
+{
+    let value = match &triple.value {
+        Some(value) => Some(owned_value(alloc, value)?),
+        None => None,
+    };
+    Ok(Triple {
+        repetition: triple.repetition,
+        definition: triple.definition,
+        value,
+    })
+}
+
+fn owned_value(alloc: Global, value: &BorrowedValue<'_>) -> Result<Value, AllocError>
+    ensures { IfOk result (λ v. owned_value_of v ≡ value_of value.now) }
+{
+    match value {
+        BorrowedValue::Flag(flag) => Ok(Value::Flag(*flag)),
+        BorrowedValue::Int(number) => Ok(Value::Int(*number)),
+        BorrowedValue::Chars(text) => Ok(Value::Chars(String::from_str(alloc, text)?)),
+    }
+}
