@@ -1,15 +1,16 @@
 //! Triples that borrow their texts from rows.
 
-ghost use Rattle.std.specs.Prelude.{◌≡◌, IfOk, map};
+ghost use Rattle.std.specs.Prelude.{◌≡◌, IfOk, map, option_map};
 ghost use Rattle.dk_pqmodel.specs.ColumnView.{columns_in, column_of as owned_column_of, entry_of as owned_entry_of, value_of as owned_value_of};
 ghost use Rattle.dk_levels.specs.Borrowed.{columns_of, entry_of, value_of};
 
 use dk_pqmodel::{Columns, Triple, Value};
 use std::alloc::{AllocError, Global};
 
-/// What a leaf of rows holds where it isn't null.
+/// What a leaf of rows holds. That it may hold nothing is a case of its own here, as a triple is smaller so.
 #[derive(Clone, Copy, Debug)]
 pub enum BorrowedValue<'a> {
+    Null,
     Flag(bool),
     Int(i64),
     Chars(&'a str),
@@ -22,8 +23,8 @@ pub struct BorrowedTriple<'a> {
     pub repetition: u8,
     /// How many of the optional fields and lists on the leaf's path are there.
     pub definition: u8,
-    /// The leaf's value, where nothing on its path is null or empty.
-    pub value: Option<BorrowedValue<'a>>,
+    /// The leaf's value; `Null` where something on its path is null or empty.
+    pub value: BorrowedValue<'a>,
 }
 
 /// Columns of the same content with texts of their own.
@@ -53,23 +54,20 @@ fn owned_column(alloc: Global, column: &[BorrowedTriple<'_>]) -> Result<Vec<Trip
 fn owned_triple(alloc: Global, triple: &BorrowedTriple<'_>) -> Result<Triple, AllocError>
     ensures { IfOk result (λ t. owned_entry_of t ≡ entry_of triple.now) }
 {
-    let value = match &triple.value {
-        Some(value) => Some(owned_value(alloc, value)?),
-        None => None,
-    };
     Ok(Triple {
         repetition: triple.repetition,
         definition: triple.definition,
-        value,
+        value: owned_value(alloc, &triple.value)?,
     })
 }
 
-fn owned_value(alloc: Global, value: &BorrowedValue<'_>) -> Result<Value, AllocError>
-    ensures { IfOk result (λ v. owned_value_of v ≡ value_of value.now) }
+fn owned_value(alloc: Global, value: &BorrowedValue<'_>) -> Result<Option<Value>, AllocError>
+    ensures { IfOk result (λ v. option_map owned_value_of v ≡ value_of value.now) }
 {
     match value {
-        BorrowedValue::Flag(flag) => Ok(Value::Flag(*flag)),
-        BorrowedValue::Int(number) => Ok(Value::Int(*number)),
-        BorrowedValue::Chars(text) => Ok(Value::Chars(String::from_str(alloc, text)?)),
+        BorrowedValue::Null => Ok(None),
+        BorrowedValue::Flag(flag) => Ok(Some(Value::Flag(*flag))),
+        BorrowedValue::Int(number) => Ok(Some(Value::Int(*number))),
+        BorrowedValue::Chars(text) => Ok(Some(Value::Chars(String::from_str(alloc, text)?))),
     }
 }

@@ -2,7 +2,7 @@
 //!
 //! Each cell adds its triples to the columns of its node, and answers the place behind them.
 
-ghost use Rattle.std.specs.Prelude.{◌≡◌, ◌+◌, ◌<◌, ◌≤◌, length, drop, IfOk, OnOk, [], ◌∷◌, option_map};
+ghost use Rattle.std.specs.Prelude.{◌≡◌, ◌+◌, ◌<◌, ◌≤◌, length, drop, IfOk, OnOk, [], ◌∷◌};
 ghost use Rattle.dk_pqmodel.specs.NodeView.{field_of, fields_of, shape_of};
 ghost use Rattle.dk_pqmodel.specs.RowView.{datum_of, cells_of};
 ghost use Rattle.dk_levels.specs.Borrowed.{value_of};
@@ -21,11 +21,11 @@ fn push<'a>(
     columns: &mut [Vec<BorrowedTriple<'a>>],
     leaf: usize,
     levels: Levels,
-    value: Option<BorrowedValue<'a>>,
+    value: BorrowedValue<'a>,
 ) -> Result<usize, AllocError>
     requires { leaf < length columns.old }
     ensures next { IfOk result (λ n. n ≡ leaf + 1) }
-    ensures added { OnOk result (Adds leaf columns.old columns.new ((record { repetition = levels.repetition; definition = levels.definition; value = option_map value_of value.entry } ∷ []) ∷ [])) }
+    ensures added { OnOk result (Adds leaf columns.old columns.new ((record { repetition = levels.repetition; definition = levels.definition; value = value_of value.entry } ∷ []) ∷ [])) }
 {
     columns[leaf].push(BorrowedTriple {
         repetition: levels.repetition,
@@ -48,7 +48,10 @@ fn put_nothing(
 {
     match kind {
         NodeKind::Flag | NodeKind::Int32 | NodeKind::Int64 | NodeKind::Chars => push(
-            columns, leaf, levels, None,
+            columns,
+            leaf,
+            levels,
+            BorrowedValue::Null,
         ),
         NodeKind::Group(nodes) => {
             let mut next = leaf;
@@ -59,7 +62,7 @@ fn put_nothing(
         }
         NodeKind::List(node) => put_nothing(columns, leaf, levels, &node.kind),
         NodeKind::Map(node) => {
-            let value = push(columns, leaf, levels, None)?;
+            let value = push(columns, leaf, levels, BorrowedValue::Null)?;
             let next = put_nothing(columns, value, levels, &node.kind)?;
             Ok(next)
         }
@@ -81,7 +84,7 @@ fn put_no_element(
     match repeated {
         Repeated::Elements => put_nothing(columns, leaf, levels, &node.kind),
         Repeated::Entries => {
-            let value = push(columns, leaf, levels, None)?;
+            let value = push(columns, leaf, levels, BorrowedValue::Null)?;
             let next = put_nothing(columns, value, levels, &node.kind)?;
             Ok(next)
         }
@@ -109,19 +112,19 @@ fn put<'a>(
             columns,
             leaf,
             reach(levels, node),
-            Some(BorrowedValue::Flag(*flag)),
+            BorrowedValue::Flag(*flag),
         ),
         Cell::Int(number) => push(
             columns,
             leaf,
             reach(levels, node),
-            Some(BorrowedValue::Int(*number)),
+            BorrowedValue::Int(*number),
         ),
         Cell::Chars(text) => push(
             columns,
             leaf,
             reach(levels, node),
-            Some(BorrowedValue::Chars(text.as_str())),
+            BorrowedValue::Chars(text.as_str()),
         ),
         Cell::Group(cells) => match &node.kind {
             NodeKind::Group(nodes) => put_group(cells, nodes, columns, leaf, reach(levels, node)),
@@ -307,12 +310,7 @@ fn push_key<'a>(
     ensures added { OnOk result (Adds leaf columns.old columns.new (cell_triples (datum_of cell.now) key levels.repetition levels.definition levels.lists)) }
 {
     match cell {
-        Cell::Chars(text) => push(
-            columns,
-            leaf,
-            levels,
-            Some(BorrowedValue::Chars(text.as_str())),
-        ),
+        Cell::Chars(text) => push(columns, leaf, levels, BorrowedValue::Chars(text.as_str())),
         _ => unreachable!(),
     }
 }

@@ -21,7 +21,6 @@ use Rattle.dk_pqmodel.specs.FilePages.{IsPlainOf, ArePlainOf, InPlain}
 use Rattle.dk_pqmodel.specs.Weight.{text_length}
 use Rattle.dk_levels.specs.Borrowed.{entry_of, value_of}
 use Rattle.dk_levels.specs.declared.borrowed.BorrowedTriple.{BorrowedTriple}
-use Rattle.dk_levels.specs.declared.borrowed.BorrowedValue as code
 use Rattle.dk_pqwrite.specs.Adding.{Adds}
 use Rattle.dk_pqwrite.specs.PlainValues.{ArePlain, FitsEntry, flag_of, flags_in, plain_size}
 use Rattle.dk_pqwrite.specs.WrittenColumn.{values_in}
@@ -127,30 +126,22 @@ module _ (triples : List BorrowedTriple) (i : ℕ) (t : BorrowedTriple) (within 
       let both = filter_map-append (λ (x : Entry). option_and_then flag_of x.value) (map entry_of (take i triples)) (entry_of t ∷ []) in
       rw (entries_more, e) (both ∙ ap (λ xs. flags_in (map entry_of (take i triples)) ++ xs) (single (option_and_then flag_of (entry_of t).value)))
 
-  values_some : (v : code.BorrowedValue) → t.value ≡ Some v → values_in (map entry_of (take (i + 1) triples)) ≡ values_in (map entry_of (take i triples)) ++ value_of v ∷ []
-  values_some v e = rw entries_more (filter_map-append (λ (x : Entry). x.value) (map entry_of (take i triples)) (entry_of t ∷ []) ∙ rw e refl)
-
-  values_none : t.value ≡ None → values_in (map entry_of (take (i + 1) triples)) ≡ values_in (map entry_of (take i triples)) ++ []
-  values_none e = rw entries_more (filter_map-append (λ (x : Entry). x.value) (map entry_of (take i triples)) (entry_of t ∷ []) ∙ rw e refl)
+  values_more : values_in (map entry_of (take (i + 1) triples)) ≡ values_in (map entry_of (take i triples)) ++ option_to_list (value_of t.value)
+  values_more =
+      let both = filter_map-append (λ (x : Entry). x.value) (map entry_of (take i triples)) (entry_of t ∷ []) in
+      rw entries_more (both ∙ ap (λ xs. values_in (map entry_of (take i triples)) ++ xs) (single (value_of t.value)))
 
 module _ (kind : Leaf) (triples : List BorrowedTriple) (i : ℕ) (t : BorrowedTriple) (within : i < length triples) (there : t ≡ get_or triples i t) where
-  pub fits_there : (v : code.BorrowedValue) → t.value ≡ Some v → All (FitsEntry kind) (map entry_of triples) → IsTrue (fits_leaf (value_of v) kind) × (text_length (value_of v) < 2 ^ 32)
-  fits_there v e h =
+  pub fits_there : All (FitsEntry kind) (map entry_of triples) → FitsEntry kind (entry_of t)
+  fits_there h =
       let here = All-get_or (FitsEntry kind) (map entry_of triples) i (entry_of t) (rw length-map within) h in
-      rw (get_or-map entry_of triples i t (entry_of t) within, ← there, e) at here
+      rw (get_or-map entry_of triples i t (entry_of t) within, ← there) at here
 
-  pub some_more : (v : code.BorrowedValue) (old mid new : List ℕ) → t.value ≡ Some v
-      → Adds (ArePlain kind (values_in (map entry_of (take i triples)))) (plain_size (values_in (map entry_of (take i triples)))) old mid
-      → Adds (ArePlain kind (value_of v ∷ [])) (8 + text_length (value_of v)) mid new
+  pub value_more : (old mid new : List ℕ) → Adds (ArePlain kind (values_in (map entry_of (take i triples)))) (plain_size (values_in (map entry_of (take i triples)))) old mid
+      → Adds (ArePlain kind (option_to_list (value_of t.value))) (plain_size (option_to_list (value_of t.value))) mid new
       → Adds (ArePlain kind (values_in (map entry_of (take (i + 1) triples)))) (plain_size (values_in (map entry_of (take (i + 1) triples)))) old new
-  some_more v old mid new e h g =
-      let size : 8 + text_length (value_of v) ≡ plain_size (value_of v ∷ []) = omega arith in
-      rw (values_some triples i t within there v e) (both_plain kind (values_in (map entry_of (take i triples))) (value_of v ∷ []) old mid new h (rw size at g))
-
-  pub none_more : (old new : List ℕ) → t.value ≡ None
-      → Adds (ArePlain kind (values_in (map entry_of (take i triples)))) (plain_size (values_in (map entry_of (take i triples)))) old new
-      → Adds (ArePlain kind (values_in (map entry_of (take (i + 1) triples)))) (plain_size (values_in (map entry_of (take (i + 1) triples)))) old new
-  none_more old new e h = rw (values_none triples i t within there e, append-nil) h
+  value_more old mid new h g =
+      rw (values_more triples i t within there) (both_plain kind (values_in (map entry_of (take i triples))) (option_to_list (value_of t.value)) old mid new h g)
 
 -- ---- flags
 

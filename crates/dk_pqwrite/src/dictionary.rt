@@ -40,7 +40,7 @@ fn text_of<'a>(triple: &BorrowedTriple<'a>) -> Option<&'a str>
     ensures { option_map (λ text. text.now) result ≡ option_and_then text_of (entry_of triple.now).value }
 {
     match &triple.value {
-        Some(BorrowedValue::Chars(text)) => Some(*text),
+        BorrowedValue::Chars(text) => Some(*text),
         _ => None,
     }
 }

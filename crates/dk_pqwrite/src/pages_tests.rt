@@ -55,7 +55,7 @@ fn triple(text: &str) -> BorrowedTriple<'_>
     BorrowedTriple {
         repetition: 0,
         definition: 1,
-        value: Some(BorrowedValue::Chars(text)),
+        value: BorrowedValue::Chars(text),
     }
 }
 

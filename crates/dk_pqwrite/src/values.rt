@@ -1,6 +1,6 @@
 //! Values in the encoding PLAIN (Apache Parquet, "Plain").
 
-ghost use Rattle.std.specs.Prelude.{◌≡◌, ◌≢◌, ◌∷◌, [], ◌+◌, ◌<◌, ◌^◌, All, IfOk, IsTrue, OnOk, length, map, option_and_then};
+ghost use Rattle.std.specs.Prelude.{◌≡◌, ◌≢◌, ◌∷◌, [], ◌+◌, ◌<◌, ◌^◌, All, IfOk, IfSome, IsTrue, OnOk, length, map, option_and_then, option_to_list};
 ghost use Rattle.dk_levels.specs.Borrowed.{entry_of, value_of};
 ghost use Rattle.dk_pqmodel.specs.Datum.{chars, int};
 ghost use Rattle.dk_pqmodel.specs.FilePages.{InPlain};
@@ -53,7 +53,7 @@ fn flag_of(triple: &BorrowedTriple<'_>) -> Option<bool>
     ensures { result ≡ option_and_then flag_of (entry_of triple.now).value }
 {
     match &triple.value {
-        Some(BorrowedValue::Flag(flag)) => Some(*flag),
+        BorrowedValue::Flag(flag) => Some(*flag),
         _ => None,
     }
 }
@@ -69,20 +69,19 @@ fn add_values(
     ensures { OnOk result (Adds (ArePlain (leaf_of kind) (values_in (map entry_of triples.now))) (plain_size (values_in (map entry_of triples.now))) out.old.items out.new.items) }
 {
     for triple in triples {
-        if let Some(value) = &triple.value {
-            add_value(out, kind, value)?;
-        }
+        add_value(out, kind, &triple.value)?;
     }
     Ok(())
 }
 
+/// Adds a number or a text, if there is one.
 fn add_value(out: &mut Vec<u8>, kind: LeafKind, value: &BorrowedValue<'_>) -> Result<(), AllocError>
     requires kind { leaf_of kind ≢ shape_flag }
-    requires fits { IsTrue (fits_leaf (value_of value.now) (leaf_of kind)) }
-    requires short { text_length (value_of value.now) < 2 ^ 32 }
-    ensures { OnOk result (Adds (ArePlain (leaf_of kind) (value_of value.now ∷ [])) (8 + text_length (value_of value.now)) out.old.items out.new.items) }
+    requires fits { IfSome (value_of value.now) (λ v. IsTrue (fits_leaf v (leaf_of kind)) × (text_length v < 2 ^ 32)) }
+    ensures { OnOk result (Adds (ArePlain (leaf_of kind) (option_to_list (value_of value.now))) (plain_size (option_to_list (value_of value.now))) out.old.items out.new.items) }
 {
     match value {
+        BorrowedValue::Null => Ok(()),
         BorrowedValue::Flag(_) => unreachable!(),
         BorrowedValue::Int(number) => add_number(out, kind, *number),
         BorrowedValue::Chars(text) => add_text(out, text),
