@@ -1,7 +1,7 @@
 //! A store in memory, which keeps all its events and tells them, and fails where that was planned.
 ghost use Rattle.std.specs.Prelude.{◌≡◌, ◌≤◌, ◌+◌, ◌-◌, ◌^◌, min, take, Some};
 ghost use Rattle.dk_store.specs.Causes.{Rose};
-ghost use Rattle.dk_store.specs.Memory.{mem_events, mem_faults, mem_clashes};
+ghost use Rattle.dk_store.specs.Memory.{mem_events, mem_faults, mem_clashes, mem_seen};
 
 #[cfg(test)]
 mod reading;
@@ -127,11 +127,7 @@ impl MemStore {
 }
 
 impl Store for MemStore {
-    ghost told = { λ s. Some (mem_events s) };
-
-    ghost store_faults = { λ s. mem_faults s };
-
-    ghost clashes = { λ s. mem_clashes s };
+    ghost seen = { λ s. mem_seen s };
 
     fn list(&mut self, folder: &str, from: &str) -> Result<Vec<Entry>, StoreError> {
         if self.plan.next(Call::List).is_some() {
