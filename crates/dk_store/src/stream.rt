@@ -3,8 +3,11 @@ ghost use Rattle.std.specs.Prelude.{◌≡◌, ◌≤◌, List, ℕ, Option, len
 ghost use Rattle.dk_store.specs.Causes.{Rose};
 ghost use Rattle.dk_store.specs.Stream.{Takes, Gives, more};
 
+use thiserror::Error;
+
 /// That a source or a sink failed, and counted that.
-#[derive(Clone, Copy, Debug, PartialEq, Eq)]
+#[derive(Clone, Copy, Debug, Error)]
+#[error("the stream failed")]
 pub struct Failed;
 
 /// A source of bytes.
@@ -66,51 +69,4 @@ pub fn give_all<O: Sink>(out: &mut O, text: &[u8]) -> Result<(), Failed>
         }
     }
     Ok(())
-}
-
-#[cfg(test)]
-mod tests {
-    use crate::{Failed, InputFault, MemSink, MemSource, Source, give_all, take_all};
-    use std::test::Fail;
-
-    #[test]
-    fn a_failing_call_leaves_the_bytes(rt: HostRuntime) -> Result<(), Fail> {
-        let alloc = rt.alloc();
-        let mut input = MemSource::new(b"abcde".to_vec(alloc)?, vec![in alloc; 2]?);
-        let mut buf = [0; 3];
-        assert_eq!(rt; input.take(&mut buf), Ok(3));
-        assert_eq!(rt; &buf, b"abc");
-        assert_eq!(rt; input.take(&mut buf), Err(Failed));
-        assert_eq!(rt; input.take(&mut buf), Ok(2));
-        assert_eq!(rt; &buf, b"dec");
-        assert_eq!(rt; input.take(&mut buf), Ok(0));
-
-        let mut out = MemSink::new(alloc, vec![in alloc; 2]?);
-        assert_eq!(rt; give_all(&mut out, b"one"), Ok(()));
-        assert_eq!(rt; give_all(&mut out, b"two"), Err(Failed));
-        assert_eq!(rt; give_all(&mut out, b"three"), Ok(()));
-        assert_eq!(rt; out.taken(), b"onethree".as_slice());
-        Ok(())
-    }
-
-    #[test]
-    fn a_source_is_read_to_its_end_under_a_limit(rt: HostRuntime) -> Result<(), Fail> {
-        let alloc = rt.alloc();
-        let cases = [
-            (5, 0, Ok(5)),
-            (4, 0, Err(InputFault::Limit)),
-            (0, 0, Err(InputFault::Limit)),
-            (9000, 1, Err(InputFault::Source)),
-            (9000, 2, Err(InputFault::Source)),
-            (9000, 3, Ok(5)),
-        ];
-        for (limit, failing, want) in cases {
-            let mut input = MemSource::new(b"abcde".to_vec(alloc)?, vec![in alloc; failing]?);
-            let taken = take_all(alloc, &mut input, limit);
-            assert_eq!(rt; taken.map(|bytes| bytes.len()), want, "{limit} {failing}");
-        }
-        let mut long = MemSource::new(vec![in alloc; 7; 9000]?, Vec::new(alloc));
-        assert_eq!(rt; take_all(alloc, &mut long, 9000)?.len(), 9000);
-        Ok(())
-    }
 }
