@@ -3,11 +3,6 @@ ghost use Rattle.std.specs.Prelude.{◌≡◌, ◌≤◌, ◌+◌, ◌-◌, ◌^
 ghost use Rattle.dk_store.specs.Causes.{Rose};
 ghost use Rattle.dk_store.specs.Memory.{mem_events, mem_faults, mem_clashes, mem_seen};
 
-#[cfg(test)]
-mod reading;
-#[cfg(test)]
-mod writing;
-
 use crate::event::{Entry, Event, Put, Ratification, Ratify, StoreError};
 use crate::journal::Journal;
 use crate::plan::{Call, Fault, How, Plan};
@@ -147,7 +142,7 @@ impl Store for MemStore {
         match self.plan.next(Call::PutNew) {
             None => {
                 let put = self.journal.make(path, bytes, now)?;
-                if put == Put::Exists {
+                if let Put::Exists = put {
                     self.clash();
                 }
                 Ok(put)
@@ -188,7 +183,7 @@ impl Store for MemStore {
         match self.plan.next(Call::Ratify) {
             None => {
                 let answer = self.journal.ratify(version, name)?;
-                if answer != Ratify::Made {
+                if let Ratify::Lost { .. } = answer {
                     self.clash();
                 }
                 Ok(answer)

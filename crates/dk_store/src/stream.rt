@@ -2,8 +2,11 @@
 ghost use Rattle.std.specs.Prelude.{◌≡◌, ◌≤◌, length, IfOk};
 ghost use Rattle.dk_store.specs.Stream.{SourceSeen, SinkSeen, TakesFrom, GivesTo, GivesWhole};
 
+use thiserror::Error;
+
 /// That a source or a sink failed, and counted that.
-#[derive(Clone, Copy, Debug, PartialEq, Eq)]
+#[derive(Clone, Copy, Debug, Error)]
+#[error("the stream failed")]
 pub struct Failed;
 
 /// A source of bytes.
