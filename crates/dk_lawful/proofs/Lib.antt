@@ -22,6 +22,7 @@ pub mod ReadLog
 pub mod RowExample
 pub mod SegmentSteps
 pub mod SegmentsAgree
+pub mod SoFar
 pub mod Sound
 pub mod SoundDeleted
 pub mod SoundMade
@@ -30,6 +31,7 @@ pub mod Standing
 pub mod StayFit
 pub mod Stays
 pub mod Structure
+pub mod Transacted
 pub mod Unmanaged
 pub mod Validly
 pub mod Ways

@@ -12,6 +12,7 @@ use Rattle.dk_paths.specs.Places.{Place, Commit_at, Classic, Part, V2, Compacted
 use Rattle.dk_paths.specs.Staged.{staged_name}
 use Rattle.dk_lawful.specs.Present.{Holds, Present, AtMostPublished, Complete, staged_bytes}
 use Rattle.dk_lawful.specs.Managed.{is_managed}
+use Rattle.dk_lawful.specs.Timestamps.{last_timestamp}
 use Rattle.dk_lawful.specs.History.{By_catalogue, RatifiedCommit, by_catalogue, history, next_version, commits_of, state_of, table, table_before, staged_commit}
 use Rattle.dk_lawful.specs.Floor.{HasBetween}
 use Rattle.dk_lawful.specs.Checkpoints.{IsTopOf}
@@ -123,7 +124,7 @@ ratify es version name horizon may sound =
           stands_same es (Ratified version name ∷ es) same on other given
           (sound.standings other given (sym (ap (λ (b : Bool). if b then Some name else standing es other) (ne_eqb version other apart)) ∙ is))
     ])
-    (λ none. absurd (true≢false (sym (management_stays (table es) version may.actions may.valid may.by_catalogue)
+    (λ none. absurd (true≢false (sym (management_stays (table es) (last_timestamp (commits_of (history es))) (length (commits_of (history es))) may.actions may.valid may.by_catalogue)
     ∙ sym (ap is_managed (ap state_of now ∙ state_after (history es) (by_catalogue may.actions))) ∙ none)))
     (λ other limit below floor. elim (cases_lt other (next_version es)) [
       | inl less ↦ elim (sound.covered other limit less floor) [

@@ -25,3 +25,7 @@ pub mod Rules
 pub mod Segments
 pub mod SegmentLaws
 pub mod Shares
+pub mod SoFar
+pub mod Timestamps
+pub mod Transacted
+pub mod Written
