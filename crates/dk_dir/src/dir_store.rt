@@ -1,5 +1,5 @@
 //! A store over a folder.
-ghost use Rattle.std.specs.Prelude.{◌≡◌, ◌≤◌, ◌<◌, ◌+◌, ◌-◌, ◌^◌, ℕ, All, IfOk, min, None, Ok, Err};
+ghost use Rattle.std.specs.Prelude.{◌≡◌, ◌≤◌, ◌<◌, ◌+◌, ◌-◌, ◌^◌, ℕ, All, IfOk, min, Ok, Err};
 ghost use Rattle.dk_store.specs.Causes.{Rose};
 
 #[cfg(test)]
@@ -214,11 +214,9 @@ fn locked<R: Disk>(rt: &R, folder: &str, access: Access) -> io::Result<File> {
 }
 
 impl<R: Disk> Store for DirStore<R> {
-    ghost told = { λ _. None };
+    ghost use Rattle.dk_dir.specs.Counts.{dir_seen};
 
-    ghost store_faults = { λ s. s.faults };
-
-    ghost clashes = { λ s. s.clashes };
+    ghost seen = { λ s. dir_seen s };
 
     fn list(&mut self, folder: &str, from: &str) -> Result<Vec<Entry>, StoreError> {
         let answer = self.try_list(folder, from);
