@@ -2,9 +2,6 @@
 ghost use Rattle.std.specs.Prelude.{◌≡◌, ◌≤◌, ◌<◌, ◌+◌, ◌-◌, ◌^◌, ℕ, All, IfOk, min, Ok, Err};
 ghost use Rattle.dk_store.specs.Causes.{Rose};
 
-#[cfg(test)]
-mod tests;
-
 use crate::catalogue::{forget, ratified, ratify};
 use crate::disk::{Disk, list, read};
 use crate::paths::{is_object_path, join};
@@ -15,7 +12,7 @@ use std::io::ErrorKind;
 use std::{fs, io};
 
 // What the store's lock is for.
-#[derive(Clone, Copy, Debug, PartialEq, Eq)]
+#[derive(Clone, Copy)]
 enum Access {
     Write,
     Read,
@@ -86,7 +83,7 @@ impl<R: Disk> DirStore<R> {
         ensures faults { self.new.faults ≡ self.old.faults }
         ensures clashes { self.new.clashes ≡ self.old.clashes }
     {
-        if self.access == Access::Read {
+        if let Access::Read = self.access {
             return Err(io::Error::from(ErrorKind::PermissionDenied));
         }
         self.hold()
@@ -230,7 +227,7 @@ impl<R: Disk> Store for DirStore<R> {
 
     fn put_new(&mut self, path: &str, bytes: &[u8], now: i64) -> Result<Put, StoreError> {
         let answer = self.try_put_new(path, bytes, now);
-        if answer == Ok(Put::Exists) {
+        if let Ok(Put::Exists) = &answer {
             self.clash();
         }
         self.counted(answer)
