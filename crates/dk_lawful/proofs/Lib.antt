@@ -2,6 +2,7 @@ pub mod BrokenRules
 pub mod Calls
 pub mod CheckpointExample
 pub mod CommitPlaces
+pub mod CommitsThere
 pub mod ContentLaws
 pub mod ContentsStand
 pub mod Example
@@ -17,6 +18,7 @@ pub mod MoreExamples
 pub mod NextRatified
 pub mod OnTexts
 pub mod OneMeaning
+pub mod Openable
 pub mod Puts
 pub mod ReadLog
 pub mod RowExample
@@ -28,6 +30,7 @@ pub mod SoundDeleted
 pub mod SoundMade
 pub mod SoundOthers
 pub mod Standing
+pub mod StandingPlaces
 pub mod StayFit
 pub mod Stays
 pub mod Structure

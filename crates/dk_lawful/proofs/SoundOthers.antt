@@ -36,7 +36,7 @@ module _ (es later : List Told) (same : SameObjects es later) where
   here : (place : Place) → Present es place → Present later place
   here place (held, holds) = (held, same.keep place held holds)
 
-  Complete_same : (version : ℕ) → Complete es version → Complete later version
+  pub Complete_same : (version : ℕ) → Complete es version → Complete later version
   Complete_same version (inl at) = inl (here (Classic version) at)
   Complete_same version (inr (inl (id, (json, at)))) = inr (inl (id, (json, here (V2 version id json) at)))
   Complete_same version (inr (inr (parts, some, all))) = inr (inr (parts, some, λ part low high. here (Part version part parts) (all part low high)))
@@ -68,7 +68,7 @@ module _ (es later : List Told) (same : SameObjects es later) where
 ratified_same : (es : List Told) (version : ℕ) (name : List ℕ) → SameObjects es (Ratified version name ∷ es)
 ratified_same es version name = record { keep = λ place held holds. held_ratified es version name place held holds; was = λ place held holds. was_ratified es version name place held holds }
 
-forgotten_same : (es : List Told) (upto : ℕ) → SameObjects es (Forgotten upto ∷ es)
+pub forgotten_same : (es : List Told) (upto : ℕ) → SameObjects es (Forgotten upto ∷ es)
 forgotten_same es upto = record { keep = λ place held holds. held_forgotten es upto place held holds; was = λ place held holds. was_forgotten es upto place held holds }
 
 -- a ratification of the next version adds its staged commit to the history

@@ -18,6 +18,7 @@ pub mod Laws
 pub mod Lawful
 pub mod Managed
 pub mod MoreExamples
+pub mod Openable
 pub mod Permits
 pub mod Present
 pub mod RowExample

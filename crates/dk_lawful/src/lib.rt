@@ -21,4 +21,4 @@ pub use laws::{
     permitted_one_by_one, ratified_stays, rules_of_a_commit,
 };
 pub use segment::{CheckpointRef, Checkpoints, Choice, Segment, Step, StepList};
-pub use segment_laws::segments_agree;
+pub use segment_laws::{segments_agree, versions_stay_kept};

@@ -1,6 +1,6 @@
-use Rattle.std.proofs.Common.{arith, rules, subst, ◌∙◌, ◌+◌, drop}
-use Rattle.dk_conflicts.proofs.Gathered.{Gathers, at_item, one_more}
-use Rattle.dk_conflicts.proofs.claims.names_of_list.Goals as goal
+use Rattle.std.proofs.Common.{arith, rules, subst, ◌+◌, drop}
+use Rattle.dk_model.proofs.NameSets.{Gathers, at_item, one_more}
+use Rattle.dk_model.proofs.name_sets.name_set.Goals as goal
 
 pub list-preserved : goal.list-preserved
 list-preserved c =
