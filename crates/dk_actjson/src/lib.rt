@@ -13,8 +13,6 @@ mod owned;
 mod read;
 mod recorded;
 mod shown;
-#[cfg(test)]
-mod tests;
 mod tree;
 mod write;
 mod written;

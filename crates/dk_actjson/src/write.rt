@@ -211,16 +211,17 @@ fn action_line(alloc: Global, out: &mut Vec<u8>, action: &Action) -> Result<(), 
     }
 }
 
-/// Appends the line of an action to what `out` holds. What is said of another commit has none, since
-/// a transaction speaks of its own (`append_own_info`), and neither has a file of changed rows, whose
-/// content isn't kept. After an `Err` nothing is said of `out`.
+/// Appends the line of an action to what `out` holds (Delta Lake's PROTOCOL.md, "Actions"): a compact JSON object with the keys
+/// of every object in byte order, and a newline. What is said of another commit has no line, since a transaction speaks of
+/// its own (`append_own_info`), and neither has a file of changed rows, whose content isn't kept. `Err` says that memory was
+/// wanted and not had; nothing is said of `out` then. So it is with all calls that append.
 pub fn append_action(alloc: Global, out: &mut Vec<u8>, action: &Action) -> Result<(), AllocError>
     ensures { OnOk result (out.new.items ≡ out.old.items ++ written_line action.now) }
 {
     action_line(alloc, out, action)
 }
 
-/// Appends the line of a protocol to what `out` holds. After an `Err` nothing is said of `out`.
+/// Appends the line of a protocol to what `out` holds ("Protocol Evolution").
 pub fn append_protocol(
     alloc: Global,
     out: &mut Vec<u8>,
@@ -231,7 +232,7 @@ pub fn append_protocol(
     protocol_line(alloc, out, protocol)
 }
 
-/// Appends the line of a metaData to what `out` holds. After an `Err` nothing is said of `out`.
+/// Appends the line of a metaData to what `out` holds ("Change Metadata").
 pub fn append_metadata(
     alloc: Global,
     out: &mut Vec<u8>,
@@ -242,25 +243,22 @@ pub fn append_metadata(
     metadata_line(alloc, out, metadata)
 }
 
-/// Appends the line of a file that is added to what `out` holds. After an `Err` nothing is said of
-/// `out`.
+/// Appends the line of a file that is added to what `out` holds ("Add File and Remove File").
 pub fn append_add(alloc: Global, out: &mut Vec<u8>, file: &AddFile) -> Result<(), AllocError>
     ensures { OnOk result (out.new.items ≡ out.old.items ++ line_of (Action.Add file.now)) }
 {
     add_line(alloc, out, file)
 }
 
-/// Appends the line of a file that is removed to what `out` holds. After an `Err` nothing is said
-/// of `out`.
+/// Appends the line of a file that is removed to what `out` holds ("Add File and Remove File").
 pub fn append_remove(alloc: Global, out: &mut Vec<u8>, file: &RemoveFile) -> Result<(), AllocError>
     ensures { OnOk result (out.new.items ≡ out.old.items ++ line_of (Action.Remove file.now)) }
 {
     remove_line(alloc, out, file)
 }
 
-/// Appends the line of a tombstone to what `out` holds: a file that was removed at that time, in
-/// milliseconds since 1970-01-01T00:00:00Z, which changes no data. After an `Err` nothing is said of
-/// `out`.
+/// Appends the line of a tombstone to what `out` holds: a file that was removed at that time, in milliseconds since
+/// 1970-01-01T00:00:00Z, which changes no data.
 pub fn append_tombstone(
     alloc: Global,
     out: &mut Vec<u8>,
@@ -273,8 +271,7 @@ pub fn append_tombstone(
     removal_line(alloc, out, path, time, false)
 }
 
-/// Appends the line of what an application has recorded last to what `out` holds. After an `Err`
-/// nothing is said of `out`.
+/// Appends the line of what an application has recorded last to what `out` holds ("Transaction Identifiers").
 pub fn append_application(
     alloc: Global,
     out: &mut Vec<u8>,
@@ -287,8 +284,7 @@ pub fn append_application(
     application_line(alloc, out, app_id, application)
 }
 
-/// Appends the line of a domain that stands, with its configuration, to what `out` holds. After an
-/// `Err` nothing is said of `out`.
+/// Appends the line of a domain that stands, with its configuration, to what `out` holds ("Domain Metadata").
 pub fn append_domain(
     alloc: Global,
     out: &mut Vec<u8>,
@@ -301,8 +297,8 @@ pub fn append_domain(
     settings_line(alloc, out, domain, configuration, false)
 }
 
-/// Appends the line in which a transaction speaks of its own commit to what `out` holds: its id, and
-/// the moment in milliseconds since 1970-01-01T00:00:00Z. After an `Err` nothing is said of `out`.
+/// Appends the line in which a transaction speaks of its own commit to what `out` holds ("Commit Provenance Information"): its
+/// id, and the moment in milliseconds since 1970-01-01T00:00:00Z.
 pub fn append_own_info(
     alloc: Global,
     out: &mut Vec<u8>,
@@ -328,8 +324,8 @@ fn sound_line(alloc: Global, out: &mut Vec<u8>, action: &Action) -> Result<(), A
     action_line(alloc, out, action)
 }
 
-/// The text of the actions, one compact line each; what is said of other commits is left out, and so
-/// are files of changed rows.
+/// The text of the actions, one line each as `append_action` has it; what is said of other commits is left out, and so are
+/// files of changed rows. `Err` says that memory was wanted and not had.
 pub fn write_actions(alloc: Global, actions: &[Action]) -> Result<Vec<u8>, AllocError>
     ensures text { IfOk result (λ v. v.items ≡ text_of actions.now) }
     ensures sound { OnOk result (AllByRecursion IsSound actions.now) }
