@@ -62,7 +62,7 @@ names_these bytes actions names top means named has =
     one_value (sidecars_of actions) top.sidecars names (ap sidecars_of (sym (has_these bytes actions top means has)) ∙ has.named) named
 
 -- a checkpoint of this form that names no sidecar
-makes_json : (events : List Told) (version id : ℕ) (bytes : List ℕ) (actions : List Action) (horizon : ℤ) → AtMostPublished events version → commit_of bytes ≡ Some actions
+pub makes_json : (events : List Told) (version id : ℕ) (bytes : List ℕ) (actions : List Action) (horizon : ℤ) → AtMostPublished events version → commit_of bytes ≡ Some actions
     → filter_map version_in actions ≡ version ∷ [] → sidecars_of actions ≡ Some [] → steps empty_state (actions ++ []) ≡ table_at events version
     → MakesTop events (V2 version id true) version bytes horizon
 makes_json events version id bytes actions horizon published means versions alone leads = record {
@@ -78,19 +78,19 @@ makes_json events version id bytes actions horizon published means versions alon
 -- ---- the lists
 
 -- one more event on a lawful list
-made : (events : List Told) (place : Place) (bytes : List ℕ) (stamp horizon : ℤ) → Lawful events horizon → IsPlace place → ((held : List ℕ) → Holds events place held → ⊥)
+pub made : (events : List Told) (place : Place) (bytes : List ℕ) (stamp horizon : ℤ) → Lawful events horizon → IsPlace place → ((held : List ℕ) → Holds events place held → ⊥)
     → MayMake events place bytes horizon → Lawful (Made (place_path place) bytes stamp ∷ events) horizon
 made events place bytes stamp horizon lawful is none may =
     ((free_at events place is none, subst (λ p. MayMake events p bytes horizon) (sym (place_of_path place is)) may), lawful)
 
-gone : (events : List Told) (place : Place) (horizon : ℤ) → Lawful events horizon → IsPlace place → MayDelete events place → Lawful (Deleted (place_path place) ∷ events) horizon
+pub gone : (events : List Told) (place : Place) (horizon : ℤ) → Lawful events horizon → IsPlace place → MayDelete events place → Lawful (Deleted (place_path place) ∷ events) horizon
 gone events place horizon lawful is may = (subst (MayDelete events) (sym (place_of_path place is)) may, lawful)
 
 -- what stands after an object was made at a place
-abbrev OnlyAt : List Told → (Place → Type 0) → Type 0
+abbrev pub OnlyAt : List Told → (Place → Type 0) → Type 0
 OnlyAt events P = (place : Place) (held : List ℕ) → Holds events place held → P place
 
-also_at : (events : List Told) (P : Place → Type 0) (here : Place) (bytes : List ℕ) (stamp : ℤ) → IsPlace here → OnlyAt events P
+pub also_at : (events : List Told) (P : Place → Type 0) (here : Place) (bytes : List ℕ) (stamp : ℤ) → IsPlace here → OnlyAt events P
     → OnlyAt (Made (place_path here) bytes stamp ∷ events) (λ place. (here ≡ place) ⊎ P place)
 also_at events P here bytes stamp is only place held holds = elim (found_made events (place_path here) bytes stamp place held holds) [
   | inl (at, same) ↦ inl (sym (place_of_path here is) ∙ at)
@@ -116,7 +116,7 @@ only_older : OnlyAt (Made (place_path (V2 0 6 true)) older_text (pos 3) ∷ comp
 only_older = also_at (compacting example) (λ place. (Compacted 0 1 ≡ place) ⊎ IsCommitPlace place) (V2 0 6 true) older_text (pos 3) older_is only_compacted
 
 -- the history stays that of the example
-quiet : (events : List Told) (place : Place) (bytes : List ℕ) (stamp : ℤ) → IsPlace place → ((h : List RatifiedCommit) → after_made h place bytes ≡ h)
+pub quiet : (events : List Told) (place : Place) (bytes : List ℕ) (stamp : ℤ) → IsPlace place → ((h : List RatifiedCommit) → after_made h place bytes ≡ h)
     → history (Made (place_path place) bytes stamp ∷ events) ≡ history events
 quiet events place bytes stamp is adds = ap (λ p. after_made (history events) p bytes) (place_of_path place is) ∙ adds (history events)
 

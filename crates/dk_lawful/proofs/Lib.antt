@@ -12,6 +12,7 @@ pub mod Heads
 pub mod IdsOnce
 pub mod Joined
 pub mod Lists
+pub mod ManagedExample
 pub mod Management
 pub mod MayBeMade
 pub mod MoreExamples

@@ -17,6 +17,7 @@ pub mod Kept
 pub mod Laws
 pub mod Lawful
 pub mod Managed
+pub mod ManagedExample
 pub mod MoreExamples
 pub mod Openable
 pub mod Permits
