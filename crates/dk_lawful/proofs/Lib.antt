@@ -1,3 +1,4 @@
+pub mod ActorExample
 pub mod BrokenRules
 pub mod Calls
 pub mod CheckpointExample
@@ -23,6 +24,7 @@ pub mod Openable
 pub mod Puts
 pub mod ReadLog
 pub mod RowExample
+pub mod SamePlaces
 pub mod SegmentSteps
 pub mod SegmentsAgree
 pub mod SoFar

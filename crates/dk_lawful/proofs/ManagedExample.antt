@@ -1,6 +1,5 @@
 -- The managed table is lawful, and each event beside it lacks one condition.
-use Rattle.std.proofs.Common.{◌≡◌, ℕ, zero, suc, ℤ, pos, ◌≤◌, ◌<◌, ◌^◌, ◌⊎◌, inl, inr, Bool, true, false, List, [], ◌∷◌, ◌++◌, Option, Some, None, codes, length, take, option_map, option_and_then, refl, sym, ap, subst, ◌∙◌, arith, true≢false}
-use Rattle.std.specs.Prelude.{if◌then◌else◌, nat_eq}
+use Rattle.std.proofs.Common.{◌≡◌, ℕ, zero, suc, ℤ, pos, ◌≤◌, ◌<◌, ◌^◌, ◌⊎◌, inl, inr, true, List, [], ◌∷◌, ◌++◌, Option, Some, None, codes, length, take, refl, sym, ap, subst, ◌∙◌, arith, true≢false}
 use Rattle.std.specs.Str.{bytes_eq}
 use Rattle.dk_model.specs.declared.action.Action.{Action}
 use Rattle.dk_model.specs.CommitText.{commit_of}
@@ -8,8 +7,6 @@ use Rattle.dk_model.specs.CheckpointObjects.{checkpoint_meta_of}
 use Rattle.dk_model.specs.InfoObject.{info_of}
 use Rattle.dk_model.specs.State.{fold}
 use Rattle.dk_store.specs.Told.{Told, Made, Deleted, Ratified, Forgotten}
-use Rattle.dk_store.specs.Objects.{object, content}
-use Rattle.dk_store.specs.Standings.{standing}
 use Rattle.dk_paths.specs.Names.{commit_path}
 use Rattle.dk_paths.specs.Numbers.{digits}
 use Rattle.dk_paths.specs.Places.{Place, Commit_at, V2, Staged, IsPlace, place_of, place_path, log_front, staged_front}
@@ -17,15 +14,14 @@ use Rattle.dk_paths.specs.Staged.{staged_name}
 use Rattle.dk_paths.proofs.PlaceLaws.{place_of_path}
 use Rattle.dk_lawful.specs.Present.{Holds, Present, IsLastPublished, AtMostPublished, staged_bytes}
 use Rattle.dk_lawful.specs.Managed.{is_managed}
-use Rattle.dk_lawful.specs.History.{By_catalogue, RatifiedCommit, by_file, by_catalogue, history, commits_of, state_of, longer, staged_commit, next_version}
-use Rattle.dk_lawful.specs.Permits.{Permits, MayMake, MayDelete, AddsCommit, RatifiesCommit, Backfills, MakesTop}
+use Rattle.dk_lawful.specs.History.{by_file, by_catalogue, history, commits_of, state_of, next_version}
+use Rattle.dk_lawful.specs.Permits.{MayMake, MayDelete, AddsCommit, RatifiesCommit, Backfills, MakesTop}
 use Rattle.dk_lawful.specs.Lawful.{Lawful}
 use Rattle.dk_lawful.specs.Example.{IsForbidden}
 use Rattle.dk_lawful.specs.CheckpointExample.{mark_text_1}
-use Rattle.dk_lawful.specs.ManagedExample.{founding_text, founding_actions, adding_text, adding_actions, late_text, late_actions, founded, staged_once, staged_twice, catalogued, published, forgotten, dropped, checkpoint_text, checkpoint_actions, checkpointed, ManagedIsLawful, ManagedHistory}
+use Rattle.dk_lawful.specs.ManagedExample.{founding_text, founding_actions, adding_text, adding_actions, late_text, late_actions, founded, staged_once, staged_twice, catalogued, published, forgotten, dropped, checkpoint_text, checkpoint_actions, ManagedIsLawful, ManagedHistory}
 use Rattle.dk_lawful.proofs.OnTexts.{commits_on_literals, rules_on_literals}
 use Rattle.dk_lawful.proofs.Standing.{text_refl, commit_place, found_made, kept_made, made_here, held_at, held_once, held_ratified, was_ratified, held_forgotten, was_forgotten, found_deleted, kept_deleted}
-use Rattle.dk_lawful.proofs.Structure.{longer_is}
 use Rattle.dk_lawful.proofs.Example.{broken_after, adds, permitted, history_one}
 use Rattle.dk_lawful.proofs.MoreExamples.{free_at}
 use Rattle.dk_lawful.proofs.CheckpointExample.{OnlyAt, also_at, made, gone, quiet, makes_json}
@@ -240,15 +236,15 @@ dropped_published = after_drop (Deleted (place_path (Staged 1 7)) ∷ forgotten)
 none_at_top : (held : List ℕ) → Holds dropped (V2 1 9 true) held → ⊥
 none_at_top held holds = elim (only_published (V2 1 9 true) held (was_forgotten published 1 (V2 1 9 true) held
     (found_deleted forgotten (place_path (Staged 1 7)) (V2 1 9 true) held (found_deleted (Deleted (place_path (Staged 1 7)) ∷ forgotten) (place_path (Staged 1 8)) (V2 1 9 true) held holds)))) [
-  | inl is ↦ let no : Commit_at 1 ≡ V2 1 9 true = is in cc
-  | inr rest ↦ elim rest [
-    | inl is ↦ let no : Staged 1 8 ≡ V2 1 9 true = is in cc
-    | inr more ↦ elim more [
-      | inl is ↦ let no : Staged 1 7 ≡ V2 1 9 true = is in cc
-      | inr is ↦ let no : Commit_at 0 ≡ V2 1 9 true = is in cc
+      | inl is ↦ let no : Commit_at 1 ≡ V2 1 9 true = is in cc
+      | inr rest ↦ elim rest [
+        | inl is ↦ let no : Staged 1 8 ≡ V2 1 9 true = is in cc
+        | inr more ↦ elim more [
+          | inl is ↦ let no : Staged 1 7 ≡ V2 1 9 true = is in cc
+          | inr is ↦ let no : Commit_at 0 ≡ V2 1 9 true = is in cc
+        ]
+      ]
     ]
-  ]
-]
 
 pub managed_is_lawful : ManagedIsLawful
 managed_is_lawful horizon =

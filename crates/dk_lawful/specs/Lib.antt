@@ -1,3 +1,4 @@
+pub mod ActorExample
 pub mod Actors
 pub mod Agree
 pub mod BrokenRules
