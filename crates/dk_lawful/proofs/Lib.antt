@@ -12,6 +12,7 @@ pub mod HeadRules
 pub mod Heads
 pub mod IdsOnce
 pub mod Joined
+pub mod Joining
 pub mod Lists
 pub mod ManagedExample
 pub mod Management

@@ -6,7 +6,7 @@ ghost use Rattle.dk_lawful.specs.Calls.{DeleteKeepsLawful, ForgetKeepsLawful, Ke
 ghost use Rattle.dk_lawful.specs.Example.{ExampleHistory, ExampleIsLawful, IsForbidden, example, first_text, listing_text, managed_actions, managed_text, ratifying, second_actions, second_text, shrinking_text, staging, upgrading_text};
 ghost use Rattle.dk_lawful.specs.History.{by_catalogue, by_file, history};
 ghost use Rattle.dk_lawful.specs.Lawful.{Lawful};
-ghost use Rattle.dk_lawful.specs.Laws.{AgreeingHaveSameRules, CommitsStay, CompleteIsPublished, EachCameItsWay, FeaturesStay, FilesStay, FloorIsUpward, GreaterHorizonIsLawful, HistoryGrows, KeptFromFloor, LastIsAvailable, LastIsFromFloor, LastIsPublished, LastPublishedIsOne, LogShowsHistory, LowWriterIsUnmanaged, ManagementStays, NeededStays, NextIsFree, NextIsRatifiedNext, NoneBeyondLast, OneAtATime, PrefixesAreLawful, PublishedStays, PutAddsCommit, PutKeepsLawful, PutLeavesFloor, RatifiedIsManaged, RatifiedStays, ReadLogIsHistory, RulesByHeads, SidecarsStay, StagedCommitIsHistory, StandingCommitIsHistory, TableIsWhole, TakenAddsNothing, UnpublishedIsStaged, WholeLogIsOne};
+ghost use Rattle.dk_lawful.specs.Laws.{AgreeingHaveSameRules, CommitsStay, CompleteIsPublished, EachCameItsWay, EachIsValid, FeaturesStay, FilesStay, FilesUpToJoin, FloorIsUpward, GreaterHorizonIsLawful, HistoryGrows, KeptFromFloor, LastIsAvailable, LastIsFromFloor, LastIsPublished, LastPublishedIsOne, LogShowsHistory, LowWriterIsUnmanaged, ManagementStays, NeededStays, NextIsFree, NextIsRatifiedNext, NoneBeyondLast, OneAtATime, PrefixesAreLawful, PublishedStays, PutAddsCommit, PutKeepsLawful, PutLeavesFloor, RatifiedIsAboveJoin, RatifiedIsManaged, RatifiedStays, ReadLogIsHistory, RulesByHeads, SidecarsStay, StagedCommitIsHistory, StandingCommitIsHistory, TableIsWhole, TakenAddsNothing, UnpublishedIsStaged, WholeLogIsOne};
 ghost use Rattle.dk_lawful.specs.ManagedExample.{ManagedHistory, ManagedIsLawful, adding_text, catalogued, checkpoint_text, late_text, staged_twice};
 ghost use Rattle.dk_lawful.specs.SoFar.{ReadSoFar, RulesSoFar, WrittenHasNeither};
 ghost use Rattle.dk_lawful.specs.Transacted.{TransactedPlainly};
@@ -67,13 +67,16 @@ pub fn needed_stays()
 {}
 
 /// What stands ratified came to a managed table and can be read, staged where it isn't published yet; and a table that is
-/// managed stays so (Delta Lake's PROTOCOL.md, "Catalog-managed tables").
+/// managed stays so. Versions up to the one that joined the catalogue came by files, and what stands ratified is above that one
+/// (Delta Lake's PROTOCOL.md, "Catalog-managed tables").
 pub fn ratified_stays()
     ensures managed { RatifiedIsManaged }
     ensures available { RatifiedStays }
     ensures unpublished { UnpublishedIsStaged }
     ensures next { NextIsRatifiedNext }
     ensures management { ManagementStays }
+    ensures files { FilesUpToJoin }
+    ensures above { RatifiedIsAboveJoin }
 {}
 
 /// What the rules of a commit look at, and that a feature in force stays so (Delta Lake's PROTOCOL.md, "Protocol Evolution"): states
@@ -84,6 +87,7 @@ pub fn rules_of_a_commit()
     ensures heads { RulesByHeads }
     ensures agreeing { AgreeingHaveSameRules }
     ensures features { FeaturesStay }
+    ensures each { EachIsValid }
 
     // what is built so far
     ensures neither { WrittenHasNeither }
