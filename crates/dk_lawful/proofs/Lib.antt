@@ -1,3 +1,4 @@
+pub mod ActorExample
 pub mod BrokenRules
 pub mod Calls
 pub mod CheckpointExample
@@ -5,13 +6,16 @@ pub mod CommitPlaces
 pub mod CommitsThere
 pub mod ContentLaws
 pub mod ContentsStand
+pub mod CutExample
 pub mod Example
 pub mod ForbiddenCheckpoints
 pub mod HeadRules
 pub mod Heads
 pub mod IdsOnce
 pub mod Joined
+pub mod Joining
 pub mod Lists
+pub mod ManagedExample
 pub mod Management
 pub mod MayBeMade
 pub mod MoreExamples
@@ -22,6 +26,7 @@ pub mod Openable
 pub mod Puts
 pub mod ReadLog
 pub mod RowExample
+pub mod SamePlaces
 pub mod SegmentSteps
 pub mod SegmentsAgree
 pub mod SoFar

@@ -42,12 +42,12 @@ of_cons None ys y at = inr at
 of_cons (Some z) ys y (inl same) = inl (ap Some (sym same))
 of_cons (Some z) ys y (inr at) = inr at
 
-in_filter_map : {X Y : Type 0} (f : X → Option Y) (xs : List X) (x : X) (y : Y) → In xs x → f x ≡ Some y → In (filter_map f xs) y
+pub in_filter_map : {X Y : Type 0} (f : X → Option Y) (xs : List X) (x : X) (y : Y) → In xs x → f x ≡ Some y → In (filter_map f xs) y
 in_filter_map f [] x y at is = absurd at
 in_filter_map f (z ∷ xs) x y (inl same) is = at_cons (f z) (filter_map f xs) y (ap f (sym same) ∙ is)
 in_filter_map f (z ∷ xs) x y (inr at) is = in_cons (f z) (filter_map f xs) y (in_filter_map f xs x y at is)
 
-of_filter_map : {X Y : Type 0} (f : X → Option Y) (xs : List X) (y : Y) → In (filter_map f xs) y → (x : X) × In xs x × (f x ≡ Some y)
+pub of_filter_map : {X Y : Type 0} (f : X → Option Y) (xs : List X) (y : Y) → In (filter_map f xs) y → (x : X) × In xs x × (f x ≡ Some y)
 of_filter_map f [] y at = absurd at
 of_filter_map f (z ∷ xs) y at = by (of_cons (f z) (filter_map f xs) y at) (of_filter_map f xs y)
   where

@@ -1,3 +1,4 @@
+pub mod ActorExample
 pub mod Actors
 pub mod Agree
 pub mod BrokenRules
@@ -9,6 +10,7 @@ pub mod CheckpointSchema
 pub mod Checkpoints
 pub mod ContentLaws
 pub mod Contents
+pub mod CutExample
 pub mod Example
 pub mod Floor
 pub mod History
@@ -17,6 +19,7 @@ pub mod Kept
 pub mod Laws
 pub mod Lawful
 pub mod Managed
+pub mod ManagedExample
 pub mod MoreExamples
 pub mod Openable
 pub mod Permits
