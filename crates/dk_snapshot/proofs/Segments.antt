@@ -28,11 +28,11 @@ use Rattle.dk_listing.proofs.Sized.{commit_size, staged_size}
 use Rattle.dk_segment.specs.Chosen.{chosen, unless_gap}
 use Rattle.dk_segment.specs.Walked.{walked, unless_absent}
 use Rattle.dk_snapshot.specs.declared.table.Snapshot.{Snapshot}
-use Rattle.dk_snapshot.specs.Catalogue.{Surveys}
+use Rattle.dk_snapshot.specs.Surveyed.{Surveys}
 use Rattle.dk_snapshot.specs.Effects.{changes_read}
 use Rattle.dk_snapshot.specs.Opening.{state_read, state_of, read_of, snapshot_with, opened_segment, opened}
-use Rattle.dk_snapshot.specs.declared.sources.Sources.{Sources}
-use Rattle.dk_snapshot.specs.Sources.{AreSources}
+use Rattle.dk_snapshot.specs.declared.sized_segment.SizedSegment.{SizedSegment}
+use Rattle.dk_snapshot.specs.SizedSegment.{IsSizedSegmentAt}
 use Rattle.dk_snapshot.specs.Steps.{AreSized, commits_of, oldest_path, step_path}
 use Rattle.dk_snapshot.proofs.Effects.{fold_changes}
 
@@ -168,14 +168,14 @@ snapshot_given : (version : ℕ) (segment : Segment) (read meant : Result (Table
 snapshot_given version segment (Ok read) meant gives = ap (snapshot_with version segment) gives
 snapshot_given version segment (Err refusal) meant gives = refused_by_part (snapshot_with version segment) (λ r. refl) refusal meant gives
 
--- what is read from sources is the version that they are sources of
-pub sources_read : (told : Option (List Told)) (limits : Limits) (now passed : ℤ) (version : ℕ) (segment : Segment) (sizes lent : List (Option ℕ)) (read : Result (TableState × ℤ) Refusal) (result : Result Snapshot Refusal)
+-- what is read from a sized segment is its version
+pub sized_read : (told : Option (List Told)) (limits : Limits) (now passed : ℤ) (version : ℕ) (segment : Segment) (sizes lent : List (Option ℕ)) (read : Result (TableState × ℤ) Refusal) (result : Result Snapshot Refusal)
     → passed ≡ now → lent ≡ sizes
     → IfSome told (λ events. AreSized events segment.steps lent → Gives (λ (r : TableState × ℤ). r) read (read_of events limits passed segment))
     → result ≡ snapshot_with version segment read
     → IfSome told (λ events. AreSized events segment.steps sizes → Gives (λ (s : Snapshot). s) result (opened_segment events limits now version segment))
-sources_read None limits now passed version segment sizes lent read result same lends means is_with = tt
-sources_read (Some events) limits now passed version segment sizes lent read result same lends means is_with = λ sized.
+sized_read None limits now passed version segment sizes lent read result same lends means is_with = tt
+sized_read (Some events) limits now passed version segment sizes lent read result same lends means is_with = λ sized.
     gives_same (λ (s : Snapshot). s) result (opened_segment events limits passed version segment) (opened_segment events limits now version segment)
     (ap (λ (n : ℤ). opened_segment events limits n version segment) same)
     (subst (λ (r : Result Snapshot Refusal). Gives (λ (s : Snapshot). s) r (opened_segment events limits passed version segment)) (sym is_with)
@@ -185,19 +185,19 @@ pub read_version : (version : ℕ) (segment : Segment) (read : Result (TableStat
 read_version version segment (Ok read) result is_with = subst (λ (r : Result Snapshot Refusal). IfOk r (λ (s : Snapshot). s.version ≡ version)) (sym is_with) refl
 read_version version segment (Err other) result is_with = subst (λ (r : Result Snapshot Refusal). IfOk r (λ (s : Snapshot). s.version ≡ version)) (sym is_with) tt
 
--- sources by a listing of the events give the asked version
-pub listed_opened : {X : Type 0} (view : X → Snapshot) (told : Option (List Told)) (listing : Catalogued) (limits : Limits) (at : Option ℕ) (choice : Choice) (now passed : ℤ) (sources : Sources) (result : Result X Refusal) → passed ≡ now
-    → ((events : List Told) → IsListingOf events listing → AreSources events at choice (Ok sources))
-    → IfSome told (λ events. AreSized events sources.segment.steps sources.sizes.items → Gives view result (opened_segment events limits passed sources.version sources.segment))
+-- a sized segment by a listing of the events gives the asked version
+pub listed_opened : {X : Type 0} (view : X → Snapshot) (told : Option (List Told)) (listing : Catalogued) (limits : Limits) (at : Option ℕ) (choice : Choice) (now passed : ℤ) (sized_segment : SizedSegment) (result : Result X Refusal) → passed ≡ now
+    → ((events : List Told) → IsListingOf events listing → IsSizedSegmentAt events at choice (Ok sized_segment))
+    → IfSome told (λ events. AreSized events sized_segment.segment.steps sized_segment.sizes.items → Gives view result (opened_segment events limits passed sized_segment.version sized_segment.segment))
     → IfSome told (λ events. IsListingOf events listing → Gives view result (opened events limits at choice now))
-listed_opened view None listing limits at choice now passed sources result moment found means = tt
-listed_opened view (Some events) listing limits at choice now passed sources result moment found means = λ is.
-    let are : AreSources events at choice (Ok sources) = found events is in
-    gives_same view result (opened_segment events limits passed sources.version sources.segment) (opened events limits at choice now)
+listed_opened view None listing limits at choice now passed sized_segment result moment found means = tt
+listed_opened view (Some events) listing limits at choice now passed sized_segment result moment found means = λ is.
+    let are : IsSizedSegmentAt events at choice (Ok sized_segment) = found events is in
+    gives_same view result (opened_segment events limits passed sized_segment.version sized_segment.segment) (opened events limits at choice now)
     (sym (are.0 limits passed) ∙ ap (λ (n : ℤ). opened events limits at choice n) moment) (means are.1)
 
 pub listed_refused : (told : Option (List Told)) (listing : Catalogued) (limits : Limits) (at : Option ℕ) (choice : Choice) (now : ℤ) (refusal : Refusal)
-    → ((events : List Told) → IsListingOf events listing → AreSources events at choice (Err refusal))
+    → ((events : List Told) → IsListingOf events listing → IsSizedSegmentAt events at choice (Err refusal))
     → IfSome told (λ events. IsListingOf events listing → Refuses refusal (opened events limits at choice now))
 listed_refused None listing limits at choice now refusal found = tt
 listed_refused (Some events) listing limits at choice now refusal found = λ is. found events is limits now

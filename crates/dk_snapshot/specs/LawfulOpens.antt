@@ -22,7 +22,7 @@ use Rattle.dk_listing.specs.Sizes.{stored_size}
 use Rattle.dk_snapshot.specs.declared.table.Snapshot.{Snapshot}
 use Rattle.dk_snapshot.specs.Opening.{opened}
 use Rattle.dk_snapshot.specs.Steps.{oldest_path, step_path}
-use Rattle.dk_snapshot.specs.Support.{retention, cut_before, cut_of}
+use Rattle.dk_snapshot.specs.Support.{retention_key, retention, cut_before, cut_of}
 
 -- ---- versions
 
@@ -69,6 +69,11 @@ abbrev pub OpenedHasCut : Type 0
 OpenedHasCut = (events : List Told) (horizon : ℤ) (limits : Limits) (at : Option ℕ) (choice : Choice) (now : ℤ) (snapshot : Snapshot) → Lawful events horizon
     → opened events limits at choice now ≡ Ok snapshot → HasCut snapshot.state.metadata now snapshot.cut
 
+-- the table's text of how long it keeps removed files is no interval, and the refusal names its setting
+abbrev pub RefusesRetention : List ℕ → Option Metadata → Type 0
+RefusesRetention name None = ⊥
+RefusesRetention name (Some metadata) = (name ≡ retention_key) × (retention metadata ≡ None)
+
 -- ---- a version of the history that is kept
 
 -- none of the objects of the steps is over the limit
@@ -95,7 +100,7 @@ abbrev pub AnswersVersion : List Told → ℤ → Limits → ℤ → ℕ → Seg
 AnswersVersion events horizon limits now version segment (Ok snapshot) = IsVersionOf events horizon limits now version segment snapshot
 AnswersVersion events horizon limits now version segment (Err (Limit Object size)) = IsNewestOver events limits.object segment.steps size
 AnswersVersion events horizon limits now version segment (Err (Unsupported name)) =
-    AreWithinLimit events limits.object segment.steps × (cut_of (oldest_path segment.steps) (table_at events version) now ≡ Err (Unsupported name))
+    AreWithinLimit events limits.object segment.steps × RefusesRetention name (table_at events version).metadata
 AnswersVersion events horizon limits now version segment (Err _) = ⊥
 
 abbrev pub KeptIsAnswered : Type 0
@@ -125,8 +130,8 @@ EmptyIsMissing = (events : List Told) (horizon : ℤ) (limits : Limits) (at : Op
 
 -- ---- each answer
 
--- Each answer has its cause in the history: a version is the asked one and is kept; an object of such a version is over the limit, or its table
--- asks for what isn't read; of a version that isn't kept the first missing commit is named, and of no history the first one; nothing else comes.
+-- Each answer has its cause in the history: a version is the asked one and is kept; an object of such a version is over the limit, or its table's
+-- text of how long it keeps removed files is no interval; of a version that isn't kept the first missing commit is named, and of no history the first one; nothing else comes.
 abbrev pub AnswersHistory : List Told → Limits → Option ℕ → Choice → ℤ → Result Snapshot Refusal → Type 0
 AnswersHistory events limits at choice now (Ok snapshot) =
     AsksVersion events at snapshot.version × IsKeptBy events snapshot.version choice × (snapshot.state ≡ table_at events snapshot.version) × HasCut snapshot.state.metadata now snapshot.cut
@@ -134,7 +139,7 @@ AnswersHistory events limits at choice now (Err (Limit Object size)) =
     (version : ℕ) × AsksVersion events at version × IsKeptBy events version choice × IsNewestOver events limits.object (segment_by events version choice).steps size
 AnswersHistory events limits at choice now (Err (Unsupported name)) =
     (version : ℕ) × AsksVersion events at version × IsKeptBy events version choice × AreWithinLimit events limits.object (segment_by events version choice).steps
-    × (cut_of (oldest_path (segment_by events version choice).steps) (table_at events version) now ≡ Err (Unsupported name))
+    × RefusesRetention name (table_at events version).metadata
 AnswersHistory events limits at choice now (Err (Missing path)) =
     ((version : ℕ) × AsksVersion events at version × (first_gap (stands_at events) (standing events) version choice ≡ Some path)) ⊎ ((next_version events ≡ 0) × (path ≡ commit_path 0))
 AnswersHistory events limits at choice now (Err (NoVersion last)) = (asked : ℕ) × (at ≡ Some asked) × (last + 1 ≡ next_version events) × (last < asked)

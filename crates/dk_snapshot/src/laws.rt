@@ -21,9 +21,10 @@ pub fn opened_is_kept()
 /// On a lawful log a version opens exactly where the history has it and it is kept, and its state is that of the history's
 /// commits up to it. Without an asked version it is the last one of the history. Its cut is the moment of the call, less the
 /// time that the table keeps removed files. A version of the history that is kept opens, unless one of its objects is
-/// over the limit or the table asks for what isn't read; so it is never `Missing`, `NoVersion` or `Damaged`. As long as no
-/// deletion has taken what a version needs, each one is kept. One that isn't kept is `Missing` of its first missing commit,
-/// and one above the last is `NoVersion`. Nothing else is answered (Delta Lake's PROTOCOL.md, "Delta Log Entries", "Action
+/// over the limit or the text of how long the table keeps removed files is no interval, and `Unsupported` names that setting
+/// and no other; so it is never `Missing`, `NoVersion` or `Damaged`. As long as no deletion has taken what a version needs,
+/// each one is kept. One that isn't kept is `Missing` of its first missing commit, and one above the last is `NoVersion`.
+/// Nothing else is answered (Delta Lake's PROTOCOL.md, "Delta Log Entries", "Action
 /// Reconciliation", "Catalog-managed tables").
 pub fn lawful_opens()
     ensures latest { LatestIsLast }

@@ -1,5 +1,5 @@
 //! Reading the objects of a segment, from the newest to the oldest.
-ghost use Rattle.std.specs.Prelude.{◌≡◌, ◌≤◌, Err, IfOk, IfSome, IsErrOf, List, option_and_then, option_map, reverse, slice_get, ℕ};
+ghost use Rattle.std.specs.Prelude.{◌≡◌, ◌≤◌, Err, None, IfErr, IfOk, IfSome, IsErrOf, List, option_and_then, option_map, reverse, slice_get, ℕ};
 ghost use Rattle.std.specs.List.{AllByRecursion};
 ghost use Rattle.dk_store.specs.Causes.{Rose};
 ghost use Rattle.dk_store.specs.Objects.{content};
@@ -9,6 +9,7 @@ ghost use Rattle.dk_engine.specs.Answers.{Gives};
 ghost use Rattle.dk_listing.specs.Sizes.{stored_size};
 ghost use Rattle.dk_snapshot.specs.Effects.{changes_read};
 ghost use Rattle.dk_snapshot.specs.Log.{commit_of_object, meant};
+ghost use Rattle.dk_snapshot.specs.Refusals.{OpenRefuses, ReadRefuses};
 ghost use Rattle.dk_snapshot.specs.Steps.{AreSized, commit_in, commits_of, fits, oldest_path, step_path};
 
 use crate::folding::gather;
@@ -29,7 +30,7 @@ pub(crate) fn step_path(step: &Step) -> &str
 }
 
 /// The path of the oldest object of a segment, by its steps in ascending order of versions; without steps that of the first
-/// commit.
+/// commit. Takes no memory.
 pub fn oldest_path(steps: &[Step]) -> &str
     ensures { result.now ≡ oldest_path steps.now }
 {
@@ -43,7 +44,7 @@ pub fn oldest_path(steps: &[Step]) -> &str
 fn fits(limit: u64, size: Option<u64>) -> Result<(), Refusal>
     ensures means { Gives (λ u. u) result (fits limit size) }
     ensures store { result ≡ Err Refusal.Store → ⊥ }
-    ensures taken { (path : List ℕ) → result ≡ Err (Refusal.Taken path) → ⊥ }
+    ensures refusals { IfErr result ReadRefuses }
 {
     match size {
         Some(size) if size > limit => Err(Refusal::Limit {
@@ -65,7 +66,7 @@ fn read_bytes(
     ensures means { Gives (λ commit. commit) result (meant path.now (reading_of bytes.now)) }
     ensures versions { IfOk result (λ commit. AllByRecursion HasVersionsInRange commit) }
     ensures store { result ≡ Err Refusal.Store → ⊥ }
-    ensures taken { (path : List ℕ) → result ≡ Err (Refusal.Taken path) → ⊥ }
+    ensures refusals { IfErr result ReadRefuses }
 {
     match json.read_commit(alloc, bytes) {
         Ok(commit) => Ok(commit),
@@ -87,7 +88,7 @@ fn read_object(
     ensures means { Gives (λ commit. commit) result (commit_of_object path.now (option_map (λ bytes. bytes.items) object)) }
     ensures versions { IfOk result (λ commit. AllByRecursion HasVersionsInRange commit) }
     ensures store { result ≡ Err Refusal.Store → ⊥ }
-    ensures taken { (path : List ℕ) → result ≡ Err (Refusal.Taken path) → ⊥ }
+    ensures refusals { IfErr result ReadRefuses }
 {
     match object {
         Some(bytes) => read_bytes(alloc, json, path, &bytes),
@@ -120,6 +121,7 @@ fn read_commit(
     ensures later { store_faults store.old ≤ store_faults store.new }
     ensures store { result ≡ Err Refusal.Store → Rose (store_faults store.old) (store_faults store.new) }
     ensures taken { (path : List ℕ) → result ≡ Err (Refusal.Taken path) → ⊥ }
+    ensures refusals { IfErr result ReadRefuses }
     ensures means { IfSome (told store.old) (λ events. Gives (λ commit. commit) result (commit_of_object path.now (content events path.now))) }
     ensures versions { IfOk result (λ commit. AllByRecursion HasVersionsInRange commit) }
 {
@@ -141,6 +143,7 @@ fn read_within(
     ensures later { store_faults store.old ≤ store_faults store.new }
     ensures store { result ≡ Err Refusal.Store → Rose (store_faults store.old) (store_faults store.new) }
     ensures taken { (path : List ℕ) → result ≡ Err (Refusal.Taken path) → ⊥ }
+    ensures refusals { IfErr result ReadRefuses }
     ensures means { IfSome (told store.old) (λ events. size ≡ stored_size events path.now → Gives (λ commit. commit) result (commit_in events limit path.now)) }
     ensures versions { IfOk result (λ commit. AllByRecursion HasVersionsInRange commit) }
 {
@@ -150,9 +153,10 @@ fn read_within(
     }
 }
 
-/// Reads the commit of a step, whose listed size in bytes is this, once. Beside faults of the store and want of memory it is
-/// refused, in this order: `Limit` of `Object` where the size is over the limit, `Missing` where the object is absent,
-/// `Damaged` where it means nothing, with its first bad line.
+/// Reads the commit of a step, whose listed size in bytes is `size`, once (Delta Lake's PROTOCOL.md, "Delta Log Entries",
+/// "Actions"). Beside faults of the store and want of memory it is refused, in this order and by nothing else: `Limit` of
+/// `Object` where the size is over `limit`, in bytes, `Missing` where the object is absent, `Damaged` where it means nothing,
+/// with its first bad line.
 pub fn read_step(
     alloc: Global,
     store: &mut dyn Store,
@@ -166,6 +170,7 @@ pub fn read_step(
     ensures later { store_faults store.old ≤ store_faults store.new }
     ensures store { result ≡ Err Refusal.Store → Rose (store_faults store.old) (store_faults store.new) }
     ensures taken { (path : List ℕ) → result ≡ Err (Refusal.Taken path) → ⊥ }
+    ensures refusals { IfErr result ReadRefuses }
     ensures means { IfSome (told store.old) (λ events. size ≡ stored_size events (step_path step.now) → Gives (λ commit. commit) result (commit_in events limit (step_path step.now))) }
     ensures versions { IfOk result (λ commit. AllByRecursion HasVersionsInRange commit) }
 {
@@ -197,6 +202,7 @@ pub(crate) fn read_steps(
     ensures later { store_faults store.old ≤ store_faults store.new }
     ensures store { result ≡ Err Refusal.Store → Rose (store_faults store.old) (store_faults store.new) }
     ensures taken { (path : List ℕ) → result ≡ Err (Refusal.Taken path) → ⊥ }
+    ensures refusals { IfErr result (OpenRefuses None) }
     ensures means { IfSome (told store.old) (λ events. AreSized events steps.now sizes.now → Gives (λ found. reverse found.items) result (changes_read (commits_of events limit steps.now))) }
     ensures versions { IfOk result (λ found. AllByRecursion HasVersionsInRange (reverse found.items)) }
 {

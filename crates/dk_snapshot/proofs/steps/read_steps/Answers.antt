@@ -1,9 +1,11 @@
 use Rattle.std.proofs.Common.{List, reverse, subst, sym, arith, refl, rules}
+use Rattle.std.specs.Prelude.{None}
 use Rattle.std.specs.List.{AllByRecursion}
 use Rattle.dk_model.specs.declared.action.Action.{Action}
 use Rattle.dk_model.specs.ReadBack.{HasVersionsInRange}
 use Rattle.dk_snapshot.proofs.Effects.{kept_all}
 use Rattle.dk_snapshot.proofs.StepReads.{read_none, read_more, read_stop, read_all}
+use Rattle.dk_snapshot.proofs.Refusals.{read_opens}
 use Rattle.dk_snapshot.proofs.steps.read_steps.Goals as goal
 
 pub loop-place-init : goal.loop-place-init
@@ -27,3 +29,6 @@ returns-in-Err-clause-means g c =
 
 pub returns-clause-means : goal.returns-clause-means
 returns-clause-means g c = read_all _ c.args.limit c.args.steps.now c.args.sizes.now c.loop-place.place c.loop-place.found.items (omega arith) c.loop-place.invariant.2
+
+pub returns-in-Err-clause-refusals : goal.returns-in-Err-clause-refusals
+returns-in-Err-clause-refusals g c = read_opens None c.in-Err.refusal c.in-Err.ensures.refusals

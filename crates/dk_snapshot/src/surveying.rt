@@ -1,10 +1,11 @@
 //! The listing of a whole log: its folder, its staged commits, and the ratifications that stand.
-ghost use Rattle.std.specs.Prelude.{◌≡◌, ◌≤◌, ◌<◌, ◌^◌, All, Err, IfOk, IfSome, IsErrOf, List, ℕ, [], codes, map};
+ghost use Rattle.std.specs.Prelude.{◌≡◌, ◌≤◌, ◌<◌, ◌^◌, All, Err, IfErr, IfOk, IfSome, IsErrOf, List, ℕ, [], codes, map};
 ghost use Rattle.dk_store.specs.Causes.{Rose};
 ghost use Rattle.dk_store.specs.Listing.{listing};
 ghost use Rattle.dk_store.specs.Standings.{ratified_from};
 ghost use Rattle.dk_store.specs.Views.{listed, ratification};
-ghost use Rattle.dk_snapshot.specs.Catalogue.{Surveys};
+ghost use Rattle.dk_snapshot.specs.Refusals.{SurveyRefuses};
+ghost use Rattle.dk_snapshot.specs.Surveyed.{Surveys};
 
 use dk_engine::Refusal;
 use dk_listing::{Catalogued, group};
@@ -53,6 +54,7 @@ pub fn survey(alloc: Global, store: &mut dyn Store) -> Result<Catalogued, Refusa
     ensures later { store_faults store.old ≤ store_faults store.new }
     ensures store { result ≡ Err Refusal.Store → Rose (store_faults store.old) (store_faults store.new) }
     ensures taken { (path : List ℕ) → result ≡ Err (Refusal.Taken path) → ⊥ }
+    ensures refusals { IfErr result SurveyRefuses }
     ensures found { IfSome (told store.old) (λ events. Surveys events result) }
 {
     let log = list_log(store)?;
