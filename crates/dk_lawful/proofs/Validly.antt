@@ -29,7 +29,7 @@ made_validly events path bytes stamp horizon (Sidecar name) is sound may = inl (
 made_validly events path bytes stamp horizon Hint is sound may = inl (ap (λ (place : Place). after_made (history events) place bytes) is)
 made_validly events path bytes stamp horizon (Other other) is sound may = inl (ap (λ (place : Place). after_made (history events) place bytes) is)
 
-goes_on_validly : (events : List Told) (event : Told) (horizon : ℤ) → Sound events horizon → Permits events event horizon → GoesOnValidly events event
+pub goes_on_validly : (events : List Told) (event : Told) (horizon : ℤ) → Sound events horizon → Permits events event horizon → GoesOnValidly events event
 goes_on_validly events (Made path bytes stamp) horizon sound may = made_validly events path bytes stamp horizon (place_of path) refl sound may.1
 goes_on_validly events (Over path bytes stamp) horizon sound may = inl refl
 goes_on_validly events (Deleted path) horizon sound may = inl refl
