@@ -13,7 +13,6 @@ use Rattle.dk_engine.specs.declared.limits.Limits.{Limits}
 use Rattle.dk_engine.specs.declared.limits.Which.TheVariants as which
 use Rattle.dk_engine.specs.declared.refusal.Refusal.{Refusal}
 use Rattle.dk_engine.specs.declared.refusal.Refusal.TheVariants as refusals
-use Rattle.dk_lawful.specs.Actors as actors
 use Rattle.dk_lawful.specs.Agree.{Agree}
 use Rattle.dk_lawful.specs.History.{history, next_version, commits_of, table, table_at}
 use Rattle.dk_lawful.specs.Ids.{HasId}
@@ -29,7 +28,7 @@ use Rattle.dk_txn.specs.declared.start.Start.{Start}
 use Rattle.dk_txn.specs.declared.transaction.Transaction.{Transaction}
 use Rattle.dk_txn.specs.Attempt.{last_version, unsupported, own_commit, commit_text, allowed, Writing, if_allowed, if_within}
 use Rattle.dk_txn.specs.Winners.{Since, Own, Others, since}
-use Rattle.dk_txn.specs.Transactions.{come_to, headed, oldest_of, unless_conflict, and_also, may_come, writing_at, Outcome, Stands, Writes, to_write, outcome_after, reached_at, outcome_at, next_after, outcome, Comes}
+use Rattle.dk_txn.specs.Transactions.{come_to, headed, oldest_of, unless_conflict, and_also, may_come, writing_at, Outcome, AlreadyCommitted, ToWrite, to_write, outcome_after, reached_at, outcome_at, next_after, outcome, Comes}
 use Rattle.dk_txn.specs.TransactionHistory.{IsFit, snapshot_of, own_of}
 use Rattle.dk_txn.specs.WinnerLaws.{AreLater}
 use Rattle.dk_txn.specs.FitLaws.{IsNextOf, FitIsNext, FitComes}
@@ -140,7 +139,7 @@ module _ (events : List Told) (horizon : ℤ) (lawful : Lawful events horizon) (
 
   module _ (limits : Limits) (now : ℤ) (writing : Writing) where
     by_others : (winners : List (List Action)) → AreLater events t.from.version (id_text t.id) winners
-        → to_write (writing_at t limits now (record { version = next_version events; before = steps_of_all t.from.before winners }) (conflict_from t.reads t.actions.items t.from.version winners)) ≡ Ok (Writes writing)
+        → to_write (writing_at t limits now (record { version = next_version events; before = steps_of_all t.from.before winners }) (conflict_from t.reads t.actions.items t.from.version winners)) ≡ Ok (ToWrite writing)
         → IsNextOf events t writing
     by_others winners since_then is =
         let all : winners ≡ drop t.from.version commits = since_then.all in
@@ -163,42 +162,42 @@ module _ (events : List Told) (horizon : ℤ) (lawful : Lawful events horizon) (
         }
 
     by_since : (meant : Result Since Refusal) → since events limits.object (id_text t.id) t.from.version (next_version events - t.from.version) ≡ meant
-        → outcome_after t limits now (next_version events) (come_to t.reads t.actions.items t.from.version t.from.before None meant) ≡ Ok (Writes writing) → IsNextOf events t writing
-    by_since (Err refusal) since_is is = absurd (let no : ◌≡◌ {A = Result Outcome Refusal} (Err refusal) (Ok (Writes writing)) = is in cc)
-    by_since (Ok (Own version)) since_is is = absurd (let no : ◌≡◌ {A = Result Outcome Refusal} (Ok (Stands version)) (Ok (Writes writing)) = is in cc)
+        → outcome_after t limits now (next_version events) (come_to t.reads t.actions.items t.from.version t.from.before None meant) ≡ Ok (ToWrite writing) → IsNextOf events t writing
+    by_since (Err refusal) since_is is = absurd (let no : ◌≡◌ {A = Result Outcome Refusal} (Err refusal) (Ok (ToWrite writing)) = is in cc)
+    by_since (Ok (Own version)) since_is is = absurd (let no : ◌≡◌ {A = Result Outcome Refusal} (Ok (AlreadyCommitted version)) (Ok (ToWrite writing)) = is in cc)
     by_since (Ok (Others winners)) since_is is =
         by_others winners (others_are_later events horizon lawful limits.object (id_text t.id) t.from.version (next_version events - t.from.version) winners (let low = within in omega (arith, low)) since_is) is
 
-    by_limit : (above : Bool) → (if above then Err (refusals.Limit which.Version last_version) else outcome_after t limits now (next_version events) (reached_at events limits t (next_version events))) ≡ Ok (Writes writing)
+    by_limit : (above : Bool) → (if above then Err (refusals.Limit which.Version last_version) else outcome_after t limits now (next_version events) (reached_at events limits t (next_version events))) ≡ Ok (ToWrite writing)
         → IsNextOf events t writing
-    by_limit true is = absurd (let no : ◌≡◌ {A = Result Outcome Refusal} (Err (refusals.Limit which.Version last_version)) (Ok (Writes writing)) = is in cc)
+    by_limit true is = absurd (let no : ◌≡◌ {A = Result Outcome Refusal} (Err (refusals.Limit which.Version last_version)) (Ok (ToWrite writing)) = is in cc)
     by_limit false is = by_since (since events limits.object (id_text t.id) t.from.version (next_version events - t.from.version)) refl is
 
-    fit_next : outcome events limits t now ≡ Ok (Writes writing) → IsNextOf events t writing
+    fit_next : outcome events limits t now ≡ Ok (ToWrite writing) → IsNextOf events t writing
     fit_next is = by_limit (nat_lt last_version (next_version events)) (sym (ap (outcome_at events limits t now) next_is) ∙ is)
 
   module _ (limits : Limits) (now : ℤ) (version : ℕ) where
     had_since : (meant : Result Since Refusal) → since events limits.object (id_text t.id) t.from.version (next_version events - t.from.version) ≡ meant
-        → outcome_after t limits now (next_version events) (come_to t.reads t.actions.items t.from.version t.from.before None meant) ≡ Ok (Stands version) → HasId (history events) version (id_text t.id)
-    had_since (Err refusal) since_is is = absurd (let no : ◌≡◌ {A = Result Outcome Refusal} (Err refusal) (Ok (Stands version)) = is in cc)
+        → outcome_after t limits now (next_version events) (come_to t.reads t.actions.items t.from.version t.from.before None meant) ≡ Ok (AlreadyCommitted version) → HasId (history events) version (id_text t.id)
+    had_since (Err refusal) since_is is = absurd (let no : ◌≡◌ {A = Result Outcome Refusal} (Err refusal) (Ok (AlreadyCommitted version)) = is in cc)
     had_since (Ok (Own at)) since_is is =
-        let same : at ≡ version = (let both : ◌≡◌ {A = Result Outcome Refusal} (Ok (Stands at)) (Ok (Stands version)) = is in cc) in
+        let same : at ≡ version = (let both : ◌≡◌ {A = Result Outcome Refusal} (Ok (AlreadyCommitted at)) (Ok (AlreadyCommitted version)) = is in cc) in
         subst (λ (v : ℕ). HasId (history events) v (id_text t.id)) same
         (own_is_had events horizon lawful limits.object (id_text t.id) t.from.version (next_version events - t.from.version) at (let low = within in omega (arith, low)) since_is).1
     had_since (Ok (Others winners)) since_is is =
         absurd (never (writing_at t limits now (record { version = next_version events; before = steps_of_all t.from.before winners }) (conflict_from t.reads t.actions.items t.from.version winners)) is)
       where
-        never : (meant : Result Writing Refusal) → to_write meant ≡ Ok (Stands version) → ⊥
-        never (Ok writing) is_it = let no : ◌≡◌ {A = Result Outcome Refusal} (Ok (Writes writing)) (Ok (Stands version)) = is_it in cc
-        never (Err refusal) is_it = let no : ◌≡◌ {A = Result Outcome Refusal} (Err refusal) (Ok (Stands version)) = is_it in cc
+        never : (meant : Result Writing Refusal) → to_write meant ≡ Ok (AlreadyCommitted version) → ⊥
+        never (Ok writing) is_it = let no : ◌≡◌ {A = Result Outcome Refusal} (Ok (ToWrite writing)) (Ok (AlreadyCommitted version)) = is_it in cc
+        never (Err refusal) is_it = let no : ◌≡◌ {A = Result Outcome Refusal} (Err refusal) (Ok (AlreadyCommitted version)) = is_it in cc
 
-    had_limit : (above : Bool) → (if above then Err (refusals.Limit which.Version last_version) else outcome_after t limits now (next_version events) (reached_at events limits t (next_version events))) ≡ Ok (Stands version)
+    had_limit : (above : Bool) → (if above then Err (refusals.Limit which.Version last_version) else outcome_after t limits now (next_version events) (reached_at events limits t (next_version events))) ≡ Ok (AlreadyCommitted version)
         → HasId (history events) version (id_text t.id)
-    had_limit true is = absurd (let no : ◌≡◌ {A = Result Outcome Refusal} (Err (refusals.Limit which.Version last_version)) (Ok (Stands version)) = is in cc)
+    had_limit true is = absurd (let no : ◌≡◌ {A = Result Outcome Refusal} (Err (refusals.Limit which.Version last_version)) (Ok (AlreadyCommitted version)) = is in cc)
     had_limit false is = had_since (since events limits.object (id_text t.id) t.from.version (next_version events - t.from.version)) refl is
 
     -- an own commit that is found stands in the history
-    pub fit_had : outcome events limits t now ≡ Ok (Stands version) → HasId (history events) version (id_text t.id)
+    pub fit_had : outcome events limits t now ≡ Ok (AlreadyCommitted version) → HasId (history events) version (id_text t.id)
     fit_had is = had_limit (nat_lt last_version (next_version events)) (sym (ap (outcome_at events limits t now) next_is) ∙ is)
 
 pub fit_is_next : FitIsNext
@@ -209,7 +208,7 @@ fit_comes events horizon limits t now lawful fit = by (outcome events limits t n
   where
     by : (meant : Result Outcome Refusal) → outcome events limits t now ≡ meant → Comes meant (own_of t) events
     by (Err refusal) is = tt
-    by (Ok (Stands version)) is = tt
-    by (Ok (Writes writing)) is = λ other also.
+    by (Ok (AlreadyCommitted version)) is = tt
+    by (Ok (ToWrite writing)) is = λ other also.
         let next = fit_is_next events horizon limits t now writing lawful fit is in
         record { next = next.next; by_file = goes_on_unmanaged (table events) writing.0 (own_of t) next.valid; valid = next.valid }

@@ -1,4 +1,6 @@
 pub mod AtLatest
+mod Clashes
+mod Refusals
 pub mod Concluding
 pub mod Next
 pub mod Lawfully

@@ -10,7 +10,7 @@ use Rattle.dk_paths.specs.Numbers.{id_text}
 use Rattle.dk_lawful.specs.Rules.{IsValidNext}
 use Rattle.dk_txn.specs.declared.transaction.Transaction.{Transaction}
 use Rattle.dk_txn.specs.Attempt.{Writing}
-use Rattle.dk_txn.specs.Transactions.{Writes, outcome, Comes}
+use Rattle.dk_txn.specs.Transactions.{ToWrite, outcome, Comes}
 use Rattle.dk_txn.specs.TransactionHistory.{IsFit, later_commits, own_of}
 
 -- what is to be written is the next version, keeps the rules after the table's state, none of the commits since the snapshot is in its
@@ -22,7 +22,7 @@ pub record IsNextOf (events : List Told) (t : Transaction) (writing : Writing) :
   pub nowhere : StandsNowhere events (id_text t.id)
 
 abbrev pub FitIsNext : Type 0
-FitIsNext = (events : List Told) (horizon : ℤ) (limits : Limits) (t : Transaction) (now : ℤ) (writing : Writing) → Lawful events horizon → IsFit events horizon t → outcome events limits t now ≡ Ok (Writes writing)
+FitIsNext = (events : List Told) (horizon : ℤ) (limits : Limits) (t : Transaction) (now : ℤ) (writing : Writing) → Lawful events horizon → IsFit events horizon t → outcome events limits t now ≡ Ok (ToWrite writing)
     → IsNextOf events t writing
 
 -- and so it may come next

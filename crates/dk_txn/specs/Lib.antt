@@ -6,3 +6,4 @@ pub mod FitLaws
 pub mod Winners
 pub mod Transactions
 pub mod TransactionHistory
+pub mod Refusals

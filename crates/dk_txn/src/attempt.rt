@@ -1,7 +1,8 @@
 //! What a commit is to write.
-ghost use Rattle.std.specs.Prelude.{◌≡◌, ℕ, List, Ok, Err, Some, IfOk};
+ghost use Rattle.std.specs.Prelude.{IfErr, ◌≡◌, ℕ, List, Ok, Err, Some, IfOk};
 ghost use Rattle.dk_engine.specs.Answers.{Gives};
 ghost use Rattle.dk_txn.specs.Attempt.{unsupported, allowed, if_within};
+ghost use Rattle.dk_txn.specs.Refusals.{CheckRefuses};
 
 use crate::rules::first_broken;
 use crate::start::Start;
@@ -38,7 +39,7 @@ fn unsupported(alloc: Global, before: &TableState) -> Result<Option<Text>, Alloc
 pub(crate) fn check(alloc: Global, from: &Start, actions: &[Action]) -> Result<(), Refusal>
     ensures means { (id : ℕ) → Gives (λ u. u) result (allowed from.now actions.now id) }
     ensures store { result ≡ Err Refusal.Store → ⊥ }
-    ensures taken { (path : List ℕ) → result ≡ Err (Refusal.Taken path) → ⊥ }
+    ensures refusals { IfErr result CheckRefuses }
 {
     if let Some(name) = unsupported(alloc, &from.before)? {
         return Err(Refusal::Unsupported { name });
@@ -55,7 +56,7 @@ pub(crate) fn within(limit: u64, version: u64, text: Vec<u8>) -> Result<Writing,
     ensures version { IfOk result (λ w. w.version ≡ version) }
     ensures text { IfOk result (λ w. w.text.items ≡ text.items) }
     ensures store { result ≡ Err Refusal.Store → ⊥ }
-    ensures taken { (path : List ℕ) → result ≡ Err (Refusal.Taken path) → ⊥ }
+    ensures refusals { IfErr result CheckRefuses }
 {
     let size = text.len() as u64;
     if limit < size {

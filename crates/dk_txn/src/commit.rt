@@ -1,5 +1,5 @@
 //! What is written of a commit.
-ghost use Rattle.std.specs.Prelude.{◌≡◌, ◌≤◌, ◌<◌, ◌^◌, ℕ, List, Ok, Err, Some, IfSome, IsErrOf, IsNone, is_some};
+ghost use Rattle.std.specs.Prelude.{IfErr, ◌≡◌, ◌≢◌, ◌≤◌, ◌<◌, ◌^◌, ℕ, List, Ok, Err, Some, IfSome, IsErrOf, IsNone, is_some};
 ghost use Rattle.dk_store.specs.Causes.{Rose};
 ghost use Rattle.dk_store.specs.Objects.{object};
 ghost use Rattle.dk_store.specs.Writing.{PutsNew};
@@ -7,7 +7,8 @@ ghost use Rattle.dk_model.specs.declared.action.Action.{Action};
 ghost use Rattle.dk_model.specs.CommitText.{commit_of};
 ghost use Rattle.dk_paths.specs.Names.{commit_path};
 ghost use Rattle.dk_lawful.specs.Kept.{IfBoth, KeepsLawful};
-ghost use Rattle.dk_txn.specs.Commits.{ComesNext, Commits, SaysHistory};
+ghost use Rattle.dk_txn.specs.Commits.{ComesNext, Commits, CountsClash, SaysHistory};
+ghost use Rattle.dk_txn.specs.Refusals.{TransactionRefuses};
 
 use crate::attempt::Writing;
 use dk_engine::Refusal;
@@ -17,19 +18,25 @@ use dk_store::{Put, Store, StoreError};
 use std::alloc::Global;
 
 /// A commit that was made.
-#[derive(Clone, Copy, Debug, PartialEq, Eq)]
+#[derive(Clone, Copy)]
 pub struct Committed {
     /// From 0 to 9,223,372,036,854,775,807.
     pub version: u64,
 }
 
 /// Makes an object where none is.
-fn put(store: &mut dyn Store, path: &str, bytes: &[u8], now: i64) -> Result<Put, StoreError>
+fn put_if_absent(
+    store: &mut dyn Store,
+    path: &str,
+    bytes: &[u8],
+    now: i64,
+) -> Result<Put, StoreError>
     ensures events { PutsNew path.now bytes.now (told store.old) result (told store.new) }
     ensures later { store_faults store.old ≤ store_faults store.new }
     ensures failed { IsErrOf result StoreError.Failed → Rose (store_faults store.old) (store_faults store.new) }
     ensures clashes_later { clashes store.old ≤ clashes store.new }
     ensures exists { result ≡ Ok Put.Exists → Rose (clashes store.old) (clashes store.new) }
+    ensures no_clash { result ≢ Ok Put.Exists → clashes store.new ≡ clashes store.old }
 {
     store.put_new(path, bytes, now)
 }
@@ -49,13 +56,15 @@ pub(crate) fn write(
     ensures clashes_later { clashes store.old ≤ clashes store.new }
     ensures store { result ≡ Err Refusal.Store → Rose (store_faults store.old) (store_faults store.new) }
     ensures taken { (path : List ℕ) → result ≡ Err (Refusal.Taken path) → Rose (clashes store.old) (clashes store.new) }
+    ensures refusals { IfErr result TransactionRefuses }
+    ensures clash { CountsClash result (clashes store.old) (clashes store.new) }
     ensures lawful { (commit : List Action) → commit_of writing.now.text.items ≡ Some commit
         → IfSome (told store.old) (ComesNext writing.now.version commit) → KeepsLawful (told store.old) (told store.new) }
     ensures history { (commit : List Action) → commit_of writing.now.text.items ≡ Some commit
         → IfSome (told store.old) (ComesNext writing.now.version commit) → IfBoth (told store.old) (told store.new) (SaysHistory commit result) }
 {
     let path = commit_path(alloc, writing.version)?;
-    match put(store, path.as_str(), &writing.text, now) {
+    match put_if_absent(store, path.as_str(), &writing.text, now) {
         Ok(Put::Made) => Ok(Committed {
             version: writing.version,
         }),

@@ -1,9 +1,11 @@
 //! A commit that begins at the latest version.
-ghost use Rattle.std.specs.Prelude.{◌≡◌, ◌≤◌, ◌<◌, ◌^◌, ◌++◌, ℕ, List, Ok, Err, None, IfOk, IfSome, OnOk, is_some};
+ghost use Rattle.std.specs.Prelude.{IfErr, ◌≡◌, ◌≤◌, ◌<◌, ◌^◌, ◌++◌, ℕ, List, Ok, Err, None, IfOk, IfSome, OnOk, is_some};
 ghost use Rattle.dk_store.specs.Causes.{Rose};
 ghost use Rattle.dk_lawful.specs.Kept.{IfBoth, KeepsLawful};
 ghost use Rattle.dk_txn.specs.Attempt.{attempt, own_commit, start};
-ghost use Rattle.dk_txn.specs.Commits.{Commits, SaysHistory};
+ghost use Rattle.dk_txn.specs.Commits.{Commits, RoseTwice, SaysHistory};
+ghost use Rattle.dk_txn.specs.Transactions.{Concludes, Transacts, outcome};
+ghost use Rattle.dk_txn.specs.Refusals.{CommitAtLatestRefuses, TransactionRefuses};
 
 use crate::commit::Committed;
 use crate::transaction::Transaction;
@@ -25,7 +27,7 @@ fn put_all(transaction: &mut Transaction, actions: Vec<Action>) -> Result<(), Al
 }
 
 /// The transaction with these actions laid behind those that are to be committed.
-fn filled(begun: Transaction, actions: Commit) -> Result<Transaction, AllocError>
+fn with_actions(begun: Transaction, actions: Commit) -> Result<Transaction, AllocError>
     ensures laid { IfOk result (λ t. t.actions.items ≡ begun.actions.items ++ actions) }
     ensures same { IfOk result (λ t. t ≡ record begun { actions = t.actions }) }
 {
@@ -37,28 +39,31 @@ fn filled(begun: Transaction, actions: Commit) -> Result<Transaction, AllocError
 }
 
 /// Commits a transaction that has not committed yet. The clauses speak of the case that nothing came since it began.
-fn commit_filled(
+fn commit_fresh(
     alloc: Global,
     store: &mut dyn Store,
     json: &mut dyn JsonHandler,
     limits: Limits,
-    filled: Transaction,
+    fresh: Transaction,
     now: i64,
 ) -> Result<Committed, Refusal>
-    requires fresh { filled.committed ≡ None }
-    requires small { filled.from.version < 2 ^ 63 }
-    ensures commits { IfSome (told store.old) (λ events. start events limits now ≡ Ok filled.from
-        → Commits (attempt events limits filled.actions.items now filled.id) events result (told store.new)) }
+    requires uncommitted { fresh.committed ≡ None }
+    requires small { fresh.from.version < 2 ^ 63 }
+    ensures commits { IfSome (told store.old) (λ events. start events limits now ≡ Ok fresh.from
+        → Commits (attempt events limits fresh.actions.items now fresh.id) events result (told store.new)) }
+    ensures concludes { IfSome (told store.old) (λ events. Concludes (outcome events limits fresh now) events result (told store.new)) }
     ensures alike { is_some (told store.new) ≡ is_some (told store.old) }
     ensures later { store_faults store.old ≤ store_faults store.new }
     ensures clashes_later { clashes store.old ≤ clashes store.new }
     ensures store { result ≡ Err Refusal.Store → Rose (store_faults store.old) (store_faults store.new) }
     ensures taken { (path : List ℕ) → result ≡ Err (Refusal.Taken path) → Rose (clashes store.old) (clashes store.new) }
-    ensures lawful { IfSome (told store.old) (λ events. start events limits now ≡ Ok filled.from) → KeepsLawful (told store.old) (told store.new) }
-    ensures history { IfSome (told store.old) (λ events. start events limits now ≡ Ok filled.from)
-        → IfBoth (told store.old) (told store.new) (SaysHistory (own_commit filled.id filled.actions.items) result) }
+    ensures refusals { IfErr result TransactionRefuses }
+    ensures twice { (path : List ℕ) → result ≡ Err (Refusal.Taken path) → RoseTwice (clashes store.old) (clashes store.new) }
+    ensures lawful { IfSome (told store.old) (λ events. start events limits now ≡ Ok fresh.from) → KeepsLawful (told store.old) (told store.new) }
+    ensures history { IfSome (told store.old) (λ events. start events limits now ≡ Ok fresh.from)
+        → IfBoth (told store.old) (told store.new) (SaysHistory (own_commit fresh.id fresh.actions.items) result) }
 {
-    let mut transaction = filled;
+    let mut transaction = fresh;
     transaction.commit(alloc, store, json, limits, now)
 }
 
@@ -91,6 +96,9 @@ pub fn commit_at_latest(
     ensures clashes_later { clashes store.old ≤ clashes store.new }
     ensures store { result ≡ Err Refusal.Store → Rose (store_faults store.old) (store_faults store.new) }
     ensures taken { (path : List ℕ) → result ≡ Err (Refusal.Taken path) → Rose (clashes store.old) (clashes store.new) }
+    ensures refusals { IfErr result CommitAtLatestRefuses }
+    ensures twice { (path : List ℕ) → result ≡ Err (Refusal.Taken path) → RoseTwice (clashes store.old) (clashes store.new) }
+    ensures transacts { Transacts limits now reads actions id (told store.old) result (told store.new) }
 
     // In the subject's own words.
     ensures lawful { KeepsLawful (told store.old) (told store.new) }
@@ -98,9 +106,9 @@ pub fn commit_at_latest(
 {
     match Transaction::begin_latest(alloc, store, json, limits, reads, now, id) {
         Err(refusal) => Err(refusal),
-        Ok(begun) => match filled(begun, actions) {
+        Ok(begun) => match with_actions(begun, actions) {
             Err(AllocError) => Err(Refusal::OutOfMemory),
-            Ok(transaction) => commit_filled(alloc, store, json, limits, transaction, now),
+            Ok(transaction) => commit_fresh(alloc, store, json, limits, transaction, now),
         },
     }
 }

@@ -9,11 +9,7 @@ pub mod laws;
 mod prepared;
 mod rules;
 mod start;
-#[cfg(test)]
-mod tests;
 mod text;
-#[cfg(test)]
-mod transacting;
 mod transaction;
 mod winners;
 

@@ -1,10 +1,11 @@
 //! What a commit comes after.
-ghost use Rattle.std.specs.Prelude.{◌≡◌, ◌≤◌, ◌<◌, ◌^◌, ◌+◌, ℕ, List, Err, IfOk, IfSome};
+ghost use Rattle.std.specs.Prelude.{IfErr, ◌≡◌, ◌≤◌, ◌<◌, ◌^◌, ◌+◌, ℕ, List, Err, IfOk, IfSome};
 ghost use Rattle.std.specs.Option.{ForSome};
 ghost use Rattle.dk_store.specs.Causes.{Rose};
 ghost use Rattle.dk_engine.specs.Answers.{Gives};
 ghost use Rattle.dk_listing.specs.OfEvents.{IsListingOf};
 ghost use Rattle.dk_txn.specs.Attempt.{start, start_of};
+ghost use Rattle.dk_txn.specs.Refusals.{BeginRefuses};
 
 use dk_engine::{JsonHandler, Limits, Refusal, Which};
 use dk_listing::Catalogued;
@@ -37,6 +38,7 @@ fn open_latest_listed(
     ensures later { store_faults store.old ≤ store_faults store.new }
     ensures store { result ≡ Err Refusal.Store → Rose (store_faults store.old) (store_faults store.new) }
     ensures taken { (path : List ℕ) → result ≡ Err (Refusal.Taken path) → ⊥ }
+    ensures refusals { IfErr result BeginRefuses }
     ensures means { IfSome (told store.old) (λ events. IsListingOf events listing.now → Gives start_of result (start events limits now)) }
     ensures small { IfOk result (λ snapshot. ForSome snapshot (λ s. s.version + 1 < 2 ^ 63)) }
 {
@@ -70,6 +72,7 @@ pub(crate) fn open_latest(
     ensures later { store_faults store.old ≤ store_faults store.new }
     ensures store { result ≡ Err Refusal.Store → Rose (store_faults store.old) (store_faults store.new) }
     ensures taken { (path : List ℕ) → result ≡ Err (Refusal.Taken path) → ⊥ }
+    ensures refusals { IfErr result BeginRefuses }
     ensures means { IfSome (told store.old) (λ events. Gives start_of result (start events limits now)) }
     ensures small { IfOk result (λ snapshot. ForSome snapshot (λ s. s.version + 1 < 2 ^ 63)) }
 {
