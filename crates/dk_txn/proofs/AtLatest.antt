@@ -1,69 +1,31 @@
 -- What a commit of a transaction comes to that began at the latest version, where nothing came since.
-use Rattle.std.proofs.Common.{◌≡◌, ℕ, ℤ, ◌+◌, ◌<◌, ◌^◌, Bool, true, false, List, [], ◌++◌, nat_lt, refl, ap, ap₂, sym, subst, ◌∙◌, arith, if◌then◌else◌}
+use Rattle.std.proofs.Common.{◌≡◌, ℕ, ℤ, ◌+◌, ◌<◌, ◌^◌, Bool, true, false, List, [], ◌++◌, nat_lt, refl, ap, ap₂, sym, subst, ◌∙◌, arith, inr, if◌then◌else◌}
 use Rattle.std.specs.Prelude.{Option, Some, None, Result, Ok, Err, IfSome, ◌==◌}
 use Rattle.std.proofs.lemmas.Bool.{le-ltb}
 use Rattle.dk_store.specs.Told.{Told}
-use Rattle.dk_store.specs.Standings.{standing}
 use Rattle.dk_model.specs.declared.action.Action.{Action}
-use Rattle.dk_model.specs.declared.action.Protocol.{Protocol}
-use Rattle.dk_model.specs.declared.action.Metadata.{Metadata}
-use Rattle.dk_model.specs.declared.action.AddFile.{AddFile}
 use Rattle.dk_model.specs.declared.state.TableState.{TableState}
-use Rattle.dk_model.specs.Texts.{ByText}
-use Rattle.dk_model.specs.State.{fold}
+use Rattle.dk_conflicts.specs.declared.reads.Reads.{Reads}
 use Rattle.dk_engine.specs.declared.limits.Limits.{Limits}
 use Rattle.dk_engine.specs.declared.limits.Which.TheVariants as which
 use Rattle.dk_engine.specs.declared.refusal.Refusal.{Refusal}
 use Rattle.dk_engine.specs.declared.refusal.Refusal.TheVariants as refusals
-use Rattle.dk_lawful.specs.declared.segment.Segment.{Segment}
 use Rattle.dk_lawful.specs.Kept.{IfBoth, KeepsLawful}
-use Rattle.dk_listing.specs.OfEvents.{stands_at, latest}
-use Rattle.dk_segment.specs.Chosen.{chosen}
+use Rattle.dk_listing.specs.OfEvents.{latest}
 use Rattle.dk_snapshot.specs.declared.table.Snapshot.{Snapshot}
-use Rattle.dk_snapshot.specs.Opening.{usual_choice, opened, opened_chosen, snapshot_with, state_of, with_cut}
-use Rattle.dk_snapshot.specs.Steps.{commits_of, oldest_path}
-use Rattle.dk_snapshot.specs.Support.{cut_of, cut_with}
+use Rattle.dk_snapshot.specs.Opening.{usual_choice, opened}
 use Rattle.dk_snapshot.proofs.KeptVersions.{last_read}
 use Rattle.dk_txn.specs.declared.commit.Committed.{Committed}
 use Rattle.dk_txn.specs.declared.start.Start.{Start}
 use Rattle.dk_txn.specs.declared.transaction.Transaction.{Transaction}
 use Rattle.dk_txn.specs.Attempt.{last_version, after_snapshot, start_after, start, own_commit, commit_text, allowed, Writing, if_allowed, if_within, attempt_from, attempt}
 use Rattle.dk_txn.specs.Commits.{Commits, SaysHistory}
-use Rattle.dk_txn.specs.Transactions.{Outcome, if_headed, headed, oldest_of, and_also, rules_keep, may_come, to_write, outcome_after, outcome_at, reached_at, next_after, outcome, Concludes, Comes, ConcludesHistory}
+use Rattle.dk_txn.specs.Transactions.{Outcome, if_headed, headed, oldest_of, and_also, rules_keep, may_come, to_write, outcome_after, outcome_at, reached_at, next_after, outcome, Concludes, IsTransacted, Transacts, Comes, ConcludesHistory}
 use Rattle.dk_txn.proofs.Concluding.{at_version}
+use Rattle.dk_txn.proofs.Headed.{opened_headed}
 use Rattle.dk_txn.proofs.Next.{attempt_next}
 use Rattle.dk_txn.proofs.Preparing.{none_reached}
 use Rattle.dk_txn.proofs.Starts.{not_chosen}
-
--- ---- a table that was opened has begun
-
-cut_headed : (oldest path : List ℕ) (protocol : Option Protocol) (metadata : Option Metadata) (files : ByText AddFile) (now cut : ℤ) → cut_with oldest protocol metadata files now ≡ Ok cut
-    → if_headed path protocol metadata ≡ Ok tt
-cut_headed oldest path (Some protocol) (Some metadata) files now cut is = refl
-cut_headed oldest path (Some protocol) None files now cut is = absurd (let no : ◌≡◌ {A = Result ℤ Refusal} (Err (refusals.Damaged oldest 0)) (Ok cut) = is in cc)
-cut_headed oldest path None metadata files now cut is = absurd (let no : ◌≡◌ {A = Result ℤ Refusal} (Err (refusals.Damaged oldest 0)) (Ok cut) = is in cc)
-
-module _ (events : List Told) (limits : Limits) (now : ℤ) (last : ℕ) (snapshot : Snapshot) (path : List ℕ) where
-  abbrev IsHeaded : Type 0
-  IsHeaded = if_headed path snapshot.state.protocol snapshot.state.metadata ≡ Ok tt
-
-  cut_is : (segment : Segment) (state : TableState) (cut : Result ℤ Refusal) → cut_of (oldest_path segment.steps) state now ≡ cut → snapshot_with last segment (with_cut state cut) ≡ Ok snapshot → IsHeaded
-  cut_is segment state (Err refusal) is opens = absurd (let no : ◌≡◌ {A = Result Snapshot Refusal} (Err refusal) (Ok snapshot) = opens in cc)
-  cut_is segment state (Ok cut) is opens =
-      let same : ◌≡◌ {A = Result Snapshot Refusal} (Ok (record { version = last; state = state; cut = cut; segment = segment })) (Ok snapshot) = opens in
-      let at : state ≡ snapshot.state = cc in
-      subst (λ (s : TableState). if_headed path s.protocol s.metadata ≡ Ok tt) at (cut_headed (oldest_path segment.steps) path state.protocol state.metadata state.files now cut is)
-
-  commits_are : (segment : Segment) (commits : Result (List (List Action)) Refusal) → snapshot_with last segment (state_of (oldest_path segment.steps) now commits) ≡ Ok snapshot → IsHeaded
-  commits_are segment (Err refusal) opens = absurd (let no : ◌≡◌ {A = Result Snapshot Refusal} (Err refusal) (Ok snapshot) = opens in cc)
-  commits_are segment (Ok commits) opens = cut_is segment (fold commits) (cut_of (oldest_path segment.steps) (fold commits) now) refl opens
-
-  segment_is : (found : Result Segment Refusal) → opened_chosen events limits now last found ≡ Ok snapshot → IsHeaded
-  segment_is (Err refusal) opens = absurd (let no : ◌≡◌ {A = Result Snapshot Refusal} (Err refusal) (Ok snapshot) = opens in cc)
-  segment_is (Ok segment) opens = commits_are segment (commits_of events limits.object segment.steps) opens
-
-  opened_headed : latest events ≡ Some last → opened events limits None usual_choice now ≡ Ok snapshot → IsHeaded
-  opened_headed top opens = segment_is (chosen (stands_at events) (standing events) last usual_choice) (rw top at opens)
 
 -- ---- it comes where it began
 
@@ -179,6 +141,11 @@ module _ (limits : Limits) (now passed : ℤ) (t : Transaction) (own : List Acti
       (subst (λ (commit : List Action). ConcludesHistory (to_write (attempt events limits own now id)) commit result events later) (ap₂ own_commit id_is own_is)
       (subst (λ (meant : Result Outcome Refusal). ConcludesHistory meant (own_commit t.id t.actions.items) result events later) (comes_to events begun small) said))
 
+-- at the moment that was passed on
+pub at_moment : (limits : Limits) (now passed : ℤ) (t : Transaction) (told later : Option (List Told)) (result : Result Committed Refusal) → passed ≡ now
+    → IfSome told (λ events. Concludes (outcome events limits t passed) events result later) → IfSome told (λ events. Concludes (outcome events limits t now) events result later)
+at_moment limits now passed t told later result moment did = subst (λ (n : ℤ). IfSome told (λ events. Concludes (outcome events limits t n) events result later)) moment did
+
 -- ---- all of it in one call
 
 pub filled_items : (begun filled : Transaction) (own : List Action) → begun.actions.items ≡ [] → filled.actions.items ≡ begun.actions.items ++ own → filled.actions.items ≡ own
@@ -220,3 +187,20 @@ module _ (limits : Limits) (now passed : ℤ) (begun filled : Transaction) (own 
   latest_says told mid later result same begins says =
       subst (λ (commit : List Action). IfBoth told later (SaysHistory commit result)) (ap₂ own_commit id_is own_is)
       (subst (λ (o : Option (List Told)). IfBoth o later (SaysHistory (own_commit filled.id filled.actions.items) result)) same (says (filled_at told mid same begins)))
+
+  pub latest_transacts : (read : Reads) (told mid later : Option (List Told)) (result : Result Committed Refusal) → filled.reads ≡ read → filled.committed ≡ None → mid ≡ told → BegunAt told
+      → IfSome mid (λ events. Concludes (outcome events limits filled passed) events result later) → Transacts limits now read own id told result later
+  latest_transacts read told mid later result reads_is fresh same begins did = by result (record {
+    transaction = filled;
+    whole = record { reads = reads_is; actions = own_is; id = id_is; committed = fresh };
+    begins = here told begins;
+    concludes = at_moment limits now passed filled told later result moment (subst (λ (o : Option (List Told)). IfSome o (λ events. Concludes (outcome events limits filled passed) events result later)) same did);
+  })
+    where
+      here : (o : Option (List Told)) → BegunAt o → IfSome o (λ events. start events limits now ≡ Ok filled.from)
+      here None at = tt
+      here (Some events) at = ap (λ (n : ℤ). start events limits n) (sym moment) ∙ at ∙ ap (λ (f : Start). Ok f) (sym from)
+
+      by : (answer : Result Committed Refusal) → IsTransacted limits now read own id told answer later → Transacts limits now read own id told answer later
+      by (Ok committed) is = is
+      by (Err refusal) is = inr is

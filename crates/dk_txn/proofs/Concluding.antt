@@ -1,5 +1,5 @@
 -- What a commit of a transaction did, by what it comes to.
-use Rattle.std.proofs.Common.{◌≡◌, ℕ, ℤ, ◌<◌, ◌^◌, Bool, true, false, List, length, nat_lt, refl, ap, sym, subst, ◌∙◌, arith, inl, if◌then◌else◌}
+use Rattle.std.proofs.Common.{◌≡◌, ℕ, ℤ, ◌<◌, ◌^◌, Bool, true, false, List, length, nat_lt, refl, ap, sym, subst, ◌∙◌, true≢false, arith, inl, if◌then◌else◌}
 use Rattle.std.specs.Prelude.{Option, Some, None, Result, Ok, Err, IfSome, IsNone}
 use Rattle.dk_store.specs.Told.{Told}
 use Rattle.dk_store.specs.Objects.{object}
@@ -18,8 +18,8 @@ use Rattle.dk_txn.specs.declared.prepared.Prepared.TheVariants as prepared
 use Rattle.dk_txn.specs.declared.start.Start.{Start}
 use Rattle.dk_txn.specs.declared.transaction.Transaction.{Transaction}
 use Rattle.dk_txn.specs.Attempt.{last_version, commit_text, Writing, if_allowed, if_within}
-use Rattle.dk_txn.specs.Commits.{Commits}
-use Rattle.dk_txn.specs.Transactions.{Reached, At_own, After, may_come, writing_at, Outcome, Stands, Writes, to_write, outcome_after, reached_at, next_after, outcome, prepared_as, IsSmall, Concludes}
+use Rattle.dk_txn.specs.Commits.{Commits, was_taken}
+use Rattle.dk_txn.specs.Transactions.{Reached, At_own, After, may_come, writing_at, Outcome, AlreadyCommitted, ToWrite, to_write, outcome_after, reached_at, next_after, outcome, prepared_as, IsSmall, Concludes}
 use Rattle.dk_txn.proofs.NotAbove.{AtMost, free_above}
 use Rattle.dk_txn.proofs.Next.{within_is}
 
@@ -29,26 +29,26 @@ pub at_version : (may : Result (Unit {0}) Refusal) (limit version : ℕ) (text :
 at_version (Err refusal) limit version text writing is = absurd (let no : ◌≡◌ {A = Result Writing Refusal} (Err refusal) (Ok writing) = is in cc)
 at_version (Ok u) limit version text writing is = sym (ap (λ (w : Writing). w.0) (within_is (fits limit (Some (length text))) (version, text) writing is))
 
-pub is_written : (meant : Result Writing Refusal) (writing : Writing) → to_write meant ≡ Ok (Writes writing) → meant ≡ Ok writing
-is_written (Err refusal) writing is = absurd (let no : ◌≡◌ {A = Result Outcome Refusal} (Err refusal) (Ok (Writes writing)) = is in cc)
-is_written (Ok other) writing is = let same : ◌≡◌ {A = Result Outcome Refusal} (Ok (Writes other)) (Ok (Writes writing)) = is in cc
+pub is_written : (meant : Result Writing Refusal) (writing : Writing) → to_write meant ≡ Ok (ToWrite writing) → meant ≡ Ok writing
+is_written (Err refusal) writing is = absurd (let no : ◌≡◌ {A = Result Outcome Refusal} (Err refusal) (Ok (ToWrite writing)) = is in cc)
+is_written (Ok other) writing is = let same : ◌≡◌ {A = Result Outcome Refusal} (Ok (ToWrite other)) (Ok (ToWrite writing)) = is in cc
 
-after_next : (t : Transaction) (limits : Limits) (now : ℤ) (next : ℕ) (reached : Result Reached Refusal) (writing : Writing) → outcome_after t limits now next reached ≡ Ok (Writes writing) → writing.0 ≡ next
-after_next t limits now next (Err refusal) writing is = absurd (let no : ◌≡◌ {A = Result Outcome Refusal} (Err refusal) (Ok (Writes writing)) = is in cc)
-after_next t limits now next (Ok (At_own version)) writing is = absurd (let no : ◌≡◌ {A = Result Outcome Refusal} (Ok (Stands version)) (Ok (Writes writing)) = is in cc)
+after_next : (t : Transaction) (limits : Limits) (now : ℤ) (next : ℕ) (reached : Result Reached Refusal) (writing : Writing) → outcome_after t limits now next reached ≡ Ok (ToWrite writing) → writing.0 ≡ next
+after_next t limits now next (Err refusal) writing is = absurd (let no : ◌≡◌ {A = Result Outcome Refusal} (Err refusal) (Ok (ToWrite writing)) = is in cc)
+after_next t limits now next (Ok (At_own version)) writing is = absurd (let no : ◌≡◌ {A = Result Outcome Refusal} (Ok (AlreadyCommitted version)) (Ok (ToWrite writing)) = is in cc)
 after_next t limits now next (Ok (After state conflict)) writing is =
     let from : Start = record { version = next; before = state } in
     at_version (may_come t from conflict) limits.object next (commit_text t.id now t.actions.items) writing (is_written (writing_at t limits now from conflict) writing is)
 
 -- it is the one that comes next
-pub writes_next : (events : List Told) (limits : Limits) (t : Transaction) (now : ℤ) (writing : Writing) → outcome events limits t now ≡ Ok (Writes writing) → writing.0 ≡ next_after t.from.version (latest events)
+pub writes_next : (events : List Told) (limits : Limits) (t : Transaction) (now : ℤ) (writing : Writing) → outcome events limits t now ≡ Ok (ToWrite writing) → writing.0 ≡ next_after t.from.version (latest events)
 writes_next events limits t now writing is = by (nat_lt last_version next) is
   where
     next : ℕ
     next = next_after t.from.version (latest events)
 
-    by : (above : Bool) → (if above then Err (refusals.Limit which.Version last_version) else outcome_after t limits now next (reached_at events limits t next)) ≡ Ok (Writes writing) → writing.0 ≡ next
-    by true meant = absurd (let no : ◌≡◌ {A = Result Outcome Refusal} (Err (refusals.Limit which.Version last_version)) (Ok (Writes writing)) = meant in cc)
+    by : (above : Bool) → (if above then Err (refusals.Limit which.Version last_version) else outcome_after t limits now next (reached_at events limits t next)) ≡ Ok (ToWrite writing) → writing.0 ≡ next
+    by true meant = absurd (let no : ◌≡◌ {A = Result Outcome Refusal} (Err (refusals.Limit which.Version last_version)) (Ok (ToWrite writing)) = meant in cc)
     by false meant = after_next t limits now next (reached_at events limits t next) writing meant
 
 not_above : (from version : ℕ) (last : Option ℕ) → version ≡ next_after from last → AtMost version last → ⊥
@@ -56,20 +56,20 @@ not_above from version None is most = most
 not_above from version (Some last) is most = omega (arith, is, most)
 
 -- nothing stands at its path
-pub free_next : (events : List Told) (limits : Limits) (t : Transaction) (now : ℤ) (version : ℕ) (text : List ℕ) → version < 2 ^ 63 → outcome events limits t now ≡ Ok (Writes (version, text)) → IsNone (object events (commit_path version))
+pub free_next : (events : List Told) (limits : Limits) (t : Transaction) (now : ℤ) (version : ℕ) (text : List ℕ) → version < 2 ^ 63 → outcome events limits t now ≡ Ok (ToWrite (version, text)) → IsNone (object events (commit_path version))
 free_next events limits t now version text small is =
     free_above events (latest events) version refl small (not_above t.from.version version (latest events) (writes_next events limits t now (version, text) is))
 
 -- ---- one commit
 
 once_written : (told mid later : Option (List Told)) (limits : Limits) (t : Transaction) (now passed : ℤ) (version : ℕ) (text : List ℕ) (result : Result Committed Refusal) → passed ≡ now → mid ≡ told → version < 2 ^ 63
-    → IfSome told (λ events. outcome events limits t passed ≡ Ok (Writes (version, text)))
+    → IfSome told (λ events. outcome events limits t passed ≡ Ok (ToWrite (version, text)))
     → IfSome mid (λ events. IsNone (object events (commit_path version)) → Commits (Ok (version, text)) events result later)
     → IfSome told (λ events. Concludes (outcome events limits t now) events result later)
 once_written None mid later limits t now passed version text result moment same small means commits = tt
 once_written (Some events) mid later limits t now passed version text result moment same small means commits =
     let here : IsNone (object events (commit_path version)) → Commits (Ok (version, text)) events result later = rw same at commits in
-    let is : outcome events limits t now ≡ Ok (Writes (version, text)) = ap (λ (n : ℤ). outcome events limits t n) (sym moment) ∙ means in
+    let is : outcome events limits t now ≡ Ok (ToWrite (version, text)) = ap (λ (n : ℤ). outcome events limits t n) (sym moment) ∙ means in
     subst (λ (meant : Result Outcome Refusal). Concludes meant events result later) (sym is) (here (free_next events limits t now version text small is))
 
 -- of what was prepared
@@ -82,11 +82,11 @@ once_prepared told mid later limits t now passed what writing result moment same
     (subst (λ (p : Prepared). IfSome told (λ events. outcome events limits t passed ≡ Ok (prepared_as p))) is means) commits
 
 concludes_refused : (refusal : Refusal) (meant : Result Outcome Refusal) (events : List Told) (later : Option (List Told)) → later ≡ Some events → Refuses refusal meant → Concludes meant events (Err refusal) later
-concludes_refused refusals.Store (Ok (Stands version)) events later same means = (tt, same)
-concludes_refused refusals.Store (Ok (Writes writing)) events later same means = inl same
+concludes_refused refusals.Store (Ok (AlreadyCommitted version)) events later same means = (tt, same)
+concludes_refused refusals.Store (Ok (ToWrite writing)) events later same means = inl same
 concludes_refused refusals.Store (Err refusal) events later same means = inl same
-concludes_refused refusals.OutOfMemory (Ok (Stands version)) events later same means = (tt, same)
-concludes_refused refusals.OutOfMemory (Ok (Writes writing)) events later same means = same
+concludes_refused refusals.OutOfMemory (Ok (AlreadyCommitted version)) events later same means = (tt, same)
+concludes_refused refusals.OutOfMemory (Ok (ToWrite writing)) events later same means = same
 concludes_refused refusals.OutOfMemory (Err refusal) events later same means = same
 concludes_refused (refusals.Taken path) meant events later same means = absurd means
 concludes_refused refusal meant events later same means =
@@ -103,12 +103,16 @@ once_refused (Some events) later limits t now passed refusal moment same means =
 -- ---- again after a clash, which comes over no store that tells its events
 
 never_taken : (meant : Result Outcome Refusal) (events : List Told) (path : List ℕ) (later : Option (List Told)) → Concludes meant events (Err (refusals.Taken path)) later → ⊥
-never_taken (Ok (Stands version)) events path later did = did.0
-never_taken (Ok (Writes writing)) events path later did = did
+never_taken (Ok (AlreadyCommitted version)) events path later did = did.0
+never_taken (Ok (ToWrite writing)) events path later did = did
 never_taken (Err refusal) events path later did = did
 
-pub clash_never : (told later : Option (List Told)) (limits : Limits) (t : Transaction) (moment : ℤ) (refusal : Refusal) (path : List ℕ) (fact : List Told → Type 0) → refusal ≡ refusals.Taken path
-    → IfSome told (λ events. Concludes (outcome events limits t moment) events (Err refusal) later) → IfSome told fact
-clash_never None later limits t moment refusal path fact is did = tt
-clash_never (Some events) later limits t moment refusal path fact is did =
-    absurd (never_taken (outcome events limits t moment) events path later (subst (λ (r : Refusal). Concludes (outcome events limits t moment) events (Err r) later) is did))
+never_clashed : (meant : Result Outcome Refusal) (events : List Told) (result : Result Committed Refusal) (later : Option (List Told)) → was_taken result ≡ true → Concludes meant events result later → ⊥
+never_clashed meant events (Err (refusals.Taken path)) later was did = never_taken meant events path later did
+never_clashed meant events (Ok committed) later was did = true≢false (sym was)
+never_clashed meant events (Err _) later was did = true≢false (sym was)
+
+pub clash_never : (told later : Option (List Told)) (limits : Limits) (t : Transaction) (moment : ℤ) (result : Result Committed Refusal) (fact : List Told → Type 0) → was_taken result ≡ true
+    → IfSome told (λ events. Concludes (outcome events limits t moment) events result later) → IfSome told fact
+clash_never None later limits t moment result fact was did = tt
+clash_never (Some events) later limits t moment result fact was did = absurd (never_clashed (outcome events limits t moment) events result later was did)

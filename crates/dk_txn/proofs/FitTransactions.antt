@@ -4,6 +4,7 @@ use Rattle.std.specs.Prelude.{Option, Some, None, Result, Ok, Err, ◌==◌}
 use Rattle.std.proofs.lemmas.Bool.Decides.{eqb_tells}
 use Rattle.dk_store.specs.Told.{Told}
 use Rattle.dk_model.specs.declared.action.Action.{Action}
+use Rattle.dk_model.specs.declared.action.Protocol.{Protocol}
 use Rattle.dk_model.specs.declared.kind.Kind.{Kind}
 use Rattle.dk_model.specs.declared.state.TableState.{TableState}
 use Rattle.dk_model.specs.State.{empty_state, steps, steps_of_all, fold}
@@ -13,29 +14,34 @@ use Rattle.dk_engine.specs.declared.limits.Limits.{Limits}
 use Rattle.dk_engine.specs.declared.limits.Which.TheVariants as which
 use Rattle.dk_engine.specs.declared.refusal.Refusal.{Refusal}
 use Rattle.dk_engine.specs.declared.refusal.Refusal.TheVariants as refusals
-use Rattle.dk_lawful.specs.Actors as actors
 use Rattle.dk_lawful.specs.Agree.{Agree}
 use Rattle.dk_lawful.specs.History.{history, next_version, commits_of, table, table_at}
 use Rattle.dk_lawful.specs.Ids.{HasId}
 use Rattle.dk_lawful.specs.Lawful.{Lawful}
-use Rattle.dk_lawful.specs.Rules.{first_broken, IsValidNext}
+use Rattle.dk_lawful.specs.SoFar.{HasNeither, first_broken_so_far}
+use Rattle.dk_lawful.specs.Timestamps.{last_timestamp}
+use Rattle.dk_lawful.specs.Rules.{first_broken}
 use Rattle.dk_lawful.proofs.HeadRules.{rules_by_heads}
 use Rattle.dk_lawful.proofs.SegmentsAgree.{agree_steps, agrees_itself}
-use Rattle.dk_lawful.proofs.Unmanaged.{goes_on_unmanaged}
+use Rattle.dk_lawful.proofs.Sound.{length_commits}
+use Rattle.dk_features.specs.InForce.{has_feature}
+use Rattle.dk_features.specs.Names.{catalog_managed}
 use Rattle.dk_listing.specs.OfEvents.{latest}
 use Rattle.dk_snapshot.specs.LawfulOpens.{last_of}
 use Rattle.dk_snapshot.proofs.LastVersion.{latest_is_last}
 use Rattle.dk_txn.specs.declared.start.Start.{Start}
 use Rattle.dk_txn.specs.declared.transaction.Transaction.{Transaction}
-use Rattle.dk_txn.specs.Attempt.{last_version, unsupported, own_commit, commit_text, allowed, Writing, if_allowed, if_within}
+use Rattle.dk_txn.specs.Attempt.{last_version, unbuilt, unsupported, own_commit, commit_text, allowed, Writing, if_allowed, if_within}
 use Rattle.dk_txn.specs.Winners.{Since, Own, Others, since}
-use Rattle.dk_txn.specs.Transactions.{come_to, headed, oldest_of, unless_conflict, and_also, may_come, writing_at, Outcome, Stands, Writes, to_write, outcome_after, reached_at, outcome_at, next_after, outcome, Comes}
+use Rattle.dk_txn.specs.Transactions.{come_to, if_headed, headed, oldest_of, unless_conflict, and_also, may_come, writing_at, Outcome, AlreadyCommitted, ToWrite, to_write, outcome_after, reached_at, outcome_at, next_after, outcome, Comes}
 use Rattle.dk_txn.specs.TransactionHistory.{IsFit, snapshot_of, own_of}
 use Rattle.dk_txn.specs.WinnerLaws.{AreLater}
 use Rattle.dk_txn.specs.FitLaws.{IsNextOf, FitIsNext, FitComes}
 use Rattle.dk_txn.proofs.Concluding.{is_written, at_version}
 use Rattle.dk_txn.proofs.LawfulWinners.{others_are_later, own_is_had}
-use Rattle.dk_txn.proofs.Written.{no_rule}
+use Rattle.dk_txn.proofs.Next.{no_commits}
+use Rattle.dk_txn.proofs.RulesOfLaw.{none_has_neither, supported_has_neither, is_supported, keeps_law}
+use Rattle.dk_txn.proofs.Written.{no_name, no_rule}
 
 -- the same commits on both sides keep states that agree
 agree_all : (commits : List (List Action)) (state whole : TableState) (horizon : ℤ) → Agree state whole horizon → Agree (steps_of_all state commits) (steps_of_all whole commits) horizon
@@ -125,22 +131,41 @@ module _ (events : List Told) (horizon : ℤ) (lawful : Lawful events horizon) (
   no_conflict (Some conflict) u is = absurd (let no : ◌≡◌ {A = Result (Unit {0}) Refusal} (Err (refusals.Conflict conflict.0 conflict.1)) (Ok u) = is in cc)
 
   record Passed (from : Start) (conflict : Option (ℕ × Kind)) : Type 0 where
-    rules : first_broken from.before from.version (own_of t) ≡ None
+    heads : headed (oldest_of t.segment) from ≡ Ok tt
+    built : unbuilt from.before t.actions.items ≡ None
+    rules : first_broken_so_far from.before from.version (own_of t) ≡ None
     free : conflict ≡ None
 
-  passed : (from : Start) (conflict : Option (ℕ × Kind)) (heads may free : Result (Unit {0}) Refusal) (writing : Writing) (meant : Result Writing Refusal) → allowed from t.actions.items t.id ≡ may → unless_conflict conflict ≡ free
+  passed : (from : Start) (conflict : Option (ℕ × Kind)) (heads may free : Result (Unit {0}) Refusal) (writing : Writing) (meant : Result Writing Refusal) → headed (oldest_of t.segment) from ≡ heads → allowed from t.actions.items t.id ≡ may → unless_conflict conflict ≡ free
       → if_allowed (and_also heads (and_also may free)) meant ≡ Ok writing → Passed from conflict
-  passed from conflict (Err refusal) may free writing meant is is_free done = absurd (let no : ◌≡◌ {A = Result Writing Refusal} (Err refusal) (Ok writing) = done in cc)
-  passed from conflict (Ok u) (Err refusal) free writing meant is is_free done = absurd (let no : ◌≡◌ {A = Result Writing Refusal} (Err refusal) (Ok writing) = done in cc)
-  passed from conflict (Ok u) (Ok v) (Err refusal) writing meant is is_free done = absurd (let no : ◌≡◌ {A = Result Writing Refusal} (Err refusal) (Ok writing) = done in cc)
-  passed from conflict (Ok u) (Ok v) (Ok w) writing meant is is_free done = record {
-    rules = no_rule (unsupported from.before) (first_broken from.before from.version (own_commit t.id t.actions.items)) v is;
+  passed from conflict (Err refusal) may free writing meant heads_are is is_free done = absurd (let no : ◌≡◌ {A = Result Writing Refusal} (Err refusal) (Ok writing) = done in cc)
+  passed from conflict (Ok u) (Err refusal) free writing meant heads_are is is_free done = absurd (let no : ◌≡◌ {A = Result Writing Refusal} (Err refusal) (Ok writing) = done in cc)
+  passed from conflict (Ok u) (Ok v) (Err refusal) writing meant heads_are is is_free done = absurd (let no : ◌≡◌ {A = Result Writing Refusal} (Err refusal) (Ok writing) = done in cc)
+  passed from conflict (Ok u) (Ok v) (Ok w) writing meant heads_are is is_free done = record {
+    heads = heads_are;
+    built = no_name (unbuilt from.before t.actions.items) (first_broken_so_far from.before from.version (own_commit t.id t.actions.items)) v is;
+    rules = no_rule (unbuilt from.before t.actions.items) (first_broken_so_far from.before from.version (own_commit t.id t.actions.items)) v is;
     free = no_conflict conflict w is_free;
   }
 
+  -- the table that it comes after has neither feature that isn't written so far
+  neither_with : (from : Start) (first : Bool) → (from.version == 0) ≡ first → from.version ≡ next_version events → Agree from.before (table events) horizon
+      → (if first then Ok tt else if_headed (oldest_of t.segment) from.before.protocol from.before.metadata) ≡ Ok tt → unsupported from.before ≡ None → HasNeither from.before.protocol
+  neither_with from true is at agrees heads none = elim (eqb_tells from.version 0) [
+    | inl yes_it ↦
+        let empty : empty_state ≡ table events = no_commits (history events) (sym at ∙ yes_it.1) in
+        subst HasNeither (ap (λ (s : TableState). s.protocol) empty ∙ sym agrees.protocol) none_has_neither
+    | inr no_it ↦ absurd (let no : true ≡ false = sym is ∙ no_it.0 in cc)
+  ]
+  neither_with from false is at agrees heads none = supported_has_neither (oldest_of t.segment) from.before heads none
+
+  neither_at : (from : Start) → from.version ≡ next_version events → Agree from.before (table events) horizon → headed (oldest_of t.segment) from ≡ Ok tt → unsupported from.before ≡ None
+      → HasNeither from.before.protocol
+  neither_at from at agrees heads none = neither_with from (from.version == 0) refl at agrees heads none
+
   module _ (limits : Limits) (now : ℤ) (writing : Writing) where
     by_others : (winners : List (List Action)) → AreLater events t.from.version (id_text t.id) winners
-        → to_write (writing_at t limits now (record { version = next_version events; before = steps_of_all t.from.before winners }) (conflict_from t.reads t.actions.items t.from.version winners)) ≡ Ok (Writes writing)
+        → to_write (writing_at t limits now (record { version = next_version events; before = steps_of_all t.from.before winners }) (conflict_from t.reads t.actions.items t.from.version winners)) ≡ Ok (ToWrite writing)
         → IsNextOf events t writing
     by_others winners since_then is =
         let all : winners ≡ drop t.from.version commits = since_then.all in
@@ -148,57 +173,61 @@ module _ (events : List Told) (horizon : ℤ) (lawful : Lawful events horizon) (
         let conflict : Option (ℕ × Kind) = conflict_from t.reads t.actions.items t.from.version winners in
         let meant : writing_at t limits now from conflict ≡ Ok writing = is_written (writing_at t limits now from conflict) writing is in
         let pass = passed from conflict (headed (oldest_of t.segment) from) (allowed from t.actions.items t.id) (unless_conflict conflict) writing
-        (if_within limits.object (from.version, commit_text t.id now t.actions.items)) refl refl meant in
+        (if_within limits.object (from.version, commit_text t.id now t.actions.items)) refl refl refl meant in
         let at : writing.0 ≡ next_version events = at_version (may_come t from conflict) limits.object (next_version events) (commit_text t.id now t.actions.items) writing meant in
         let leads : steps_of_all (fold (take t.from.version commits)) winners ≡ table events =
         ap (steps_of_all (fold (take t.from.version commits))) all ∙ all_steps commits t.from.version empty_state in
         let agrees : Agree from.before (table events) horizon =
         subst (λ (s : TableState). Agree from.before s horizon) leads (agree_all winners t.from.before (fold (take t.from.version commits)) horizon before_agrees) in
+        let neither : HasNeither from.before.protocol = neither_at from refl agrees pass.heads (is_supported from.before t.actions.items pass.built) in
+        let last : Option ℤ = last_timestamp commits in
         record {
           next = at;
-          valid = subst (λ (v : ℕ). IsValidNext (table events) v (own_of t)) (sym at)
-              (sym (rules_by_heads from.before (table events) (next_version events) (own_of t) agrees.protocol agrees.metadata) ∙ pass.rules);
+          by_file = ap (λ (p : Option Protocol). has_feature p catalog_managed) (sym agrees.protocol) ∙ neither.unmanaged;
+          valid = ap (λ (v : ℕ). first_broken (table events) last v (own_of t)) (length_commits (history events))
+              ∙ sym (rules_by_heads from.before (table events) last (next_version events) (own_of t) agrees.protocol agrees.metadata)
+              ∙ keeps_law from.before last (next_version events) t.actions.items t.id neither pass.built pass.rules;
           free = subst (λ (ws : List (List Action)). conflict_from t.reads t.actions.items t.from.version ws ≡ None) all pass.free;
           nowhere = λ version has. since_then.none_own version (stands_after version has) has;
         }
 
     by_since : (meant : Result Since Refusal) → since events limits.object (id_text t.id) t.from.version (next_version events - t.from.version) ≡ meant
-        → outcome_after t limits now (next_version events) (come_to t.reads t.actions.items t.from.version t.from.before None meant) ≡ Ok (Writes writing) → IsNextOf events t writing
-    by_since (Err refusal) since_is is = absurd (let no : ◌≡◌ {A = Result Outcome Refusal} (Err refusal) (Ok (Writes writing)) = is in cc)
-    by_since (Ok (Own version)) since_is is = absurd (let no : ◌≡◌ {A = Result Outcome Refusal} (Ok (Stands version)) (Ok (Writes writing)) = is in cc)
+        → outcome_after t limits now (next_version events) (come_to t.reads t.actions.items t.from.version t.from.before None meant) ≡ Ok (ToWrite writing) → IsNextOf events t writing
+    by_since (Err refusal) since_is is = absurd (let no : ◌≡◌ {A = Result Outcome Refusal} (Err refusal) (Ok (ToWrite writing)) = is in cc)
+    by_since (Ok (Own version)) since_is is = absurd (let no : ◌≡◌ {A = Result Outcome Refusal} (Ok (AlreadyCommitted version)) (Ok (ToWrite writing)) = is in cc)
     by_since (Ok (Others winners)) since_is is =
         by_others winners (others_are_later events horizon lawful limits.object (id_text t.id) t.from.version (next_version events - t.from.version) winners (let low = within in omega (arith, low)) since_is) is
 
-    by_limit : (above : Bool) → (if above then Err (refusals.Limit which.Version last_version) else outcome_after t limits now (next_version events) (reached_at events limits t (next_version events))) ≡ Ok (Writes writing)
+    by_limit : (above : Bool) → (if above then Err (refusals.Limit which.Version last_version) else outcome_after t limits now (next_version events) (reached_at events limits t (next_version events))) ≡ Ok (ToWrite writing)
         → IsNextOf events t writing
-    by_limit true is = absurd (let no : ◌≡◌ {A = Result Outcome Refusal} (Err (refusals.Limit which.Version last_version)) (Ok (Writes writing)) = is in cc)
+    by_limit true is = absurd (let no : ◌≡◌ {A = Result Outcome Refusal} (Err (refusals.Limit which.Version last_version)) (Ok (ToWrite writing)) = is in cc)
     by_limit false is = by_since (since events limits.object (id_text t.id) t.from.version (next_version events - t.from.version)) refl is
 
-    fit_next : outcome events limits t now ≡ Ok (Writes writing) → IsNextOf events t writing
+    fit_next : outcome events limits t now ≡ Ok (ToWrite writing) → IsNextOf events t writing
     fit_next is = by_limit (nat_lt last_version (next_version events)) (sym (ap (outcome_at events limits t now) next_is) ∙ is)
 
   module _ (limits : Limits) (now : ℤ) (version : ℕ) where
     had_since : (meant : Result Since Refusal) → since events limits.object (id_text t.id) t.from.version (next_version events - t.from.version) ≡ meant
-        → outcome_after t limits now (next_version events) (come_to t.reads t.actions.items t.from.version t.from.before None meant) ≡ Ok (Stands version) → HasId (history events) version (id_text t.id)
-    had_since (Err refusal) since_is is = absurd (let no : ◌≡◌ {A = Result Outcome Refusal} (Err refusal) (Ok (Stands version)) = is in cc)
+        → outcome_after t limits now (next_version events) (come_to t.reads t.actions.items t.from.version t.from.before None meant) ≡ Ok (AlreadyCommitted version) → HasId (history events) version (id_text t.id)
+    had_since (Err refusal) since_is is = absurd (let no : ◌≡◌ {A = Result Outcome Refusal} (Err refusal) (Ok (AlreadyCommitted version)) = is in cc)
     had_since (Ok (Own at)) since_is is =
-        let same : at ≡ version = (let both : ◌≡◌ {A = Result Outcome Refusal} (Ok (Stands at)) (Ok (Stands version)) = is in cc) in
+        let same : at ≡ version = (let both : ◌≡◌ {A = Result Outcome Refusal} (Ok (AlreadyCommitted at)) (Ok (AlreadyCommitted version)) = is in cc) in
         subst (λ (v : ℕ). HasId (history events) v (id_text t.id)) same
         (own_is_had events horizon lawful limits.object (id_text t.id) t.from.version (next_version events - t.from.version) at (let low = within in omega (arith, low)) since_is).1
     had_since (Ok (Others winners)) since_is is =
         absurd (never (writing_at t limits now (record { version = next_version events; before = steps_of_all t.from.before winners }) (conflict_from t.reads t.actions.items t.from.version winners)) is)
       where
-        never : (meant : Result Writing Refusal) → to_write meant ≡ Ok (Stands version) → ⊥
-        never (Ok writing) is_it = let no : ◌≡◌ {A = Result Outcome Refusal} (Ok (Writes writing)) (Ok (Stands version)) = is_it in cc
-        never (Err refusal) is_it = let no : ◌≡◌ {A = Result Outcome Refusal} (Err refusal) (Ok (Stands version)) = is_it in cc
+        never : (meant : Result Writing Refusal) → to_write meant ≡ Ok (AlreadyCommitted version) → ⊥
+        never (Ok writing) is_it = let no : ◌≡◌ {A = Result Outcome Refusal} (Ok (ToWrite writing)) (Ok (AlreadyCommitted version)) = is_it in cc
+        never (Err refusal) is_it = let no : ◌≡◌ {A = Result Outcome Refusal} (Err refusal) (Ok (AlreadyCommitted version)) = is_it in cc
 
-    had_limit : (above : Bool) → (if above then Err (refusals.Limit which.Version last_version) else outcome_after t limits now (next_version events) (reached_at events limits t (next_version events))) ≡ Ok (Stands version)
+    had_limit : (above : Bool) → (if above then Err (refusals.Limit which.Version last_version) else outcome_after t limits now (next_version events) (reached_at events limits t (next_version events))) ≡ Ok (AlreadyCommitted version)
         → HasId (history events) version (id_text t.id)
-    had_limit true is = absurd (let no : ◌≡◌ {A = Result Outcome Refusal} (Err (refusals.Limit which.Version last_version)) (Ok (Stands version)) = is in cc)
+    had_limit true is = absurd (let no : ◌≡◌ {A = Result Outcome Refusal} (Err (refusals.Limit which.Version last_version)) (Ok (AlreadyCommitted version)) = is in cc)
     had_limit false is = had_since (since events limits.object (id_text t.id) t.from.version (next_version events - t.from.version)) refl is
 
     -- an own commit that is found stands in the history
-    pub fit_had : outcome events limits t now ≡ Ok (Stands version) → HasId (history events) version (id_text t.id)
+    pub fit_had : outcome events limits t now ≡ Ok (AlreadyCommitted version) → HasId (history events) version (id_text t.id)
     fit_had is = had_limit (nat_lt last_version (next_version events)) (sym (ap (outcome_at events limits t now) next_is) ∙ is)
 
 pub fit_is_next : FitIsNext
@@ -209,7 +238,7 @@ fit_comes events horizon limits t now lawful fit = by (outcome events limits t n
   where
     by : (meant : Result Outcome Refusal) → outcome events limits t now ≡ meant → Comes meant (own_of t) events
     by (Err refusal) is = tt
-    by (Ok (Stands version)) is = tt
-    by (Ok (Writes writing)) is = λ other also.
+    by (Ok (AlreadyCommitted version)) is = tt
+    by (Ok (ToWrite writing)) is = λ other also.
         let next = fit_is_next events horizon limits t now writing lawful fit is in
-        record { next = next.next; by_file = goes_on_unmanaged (table events) writing.0 (own_of t) next.valid; valid = next.valid }
+        record { next = next.next; by_file = next.by_file; valid = next.valid }

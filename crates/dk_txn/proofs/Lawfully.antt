@@ -15,7 +15,7 @@ use Rattle.dk_txn.specs.declared.prepared.Prepared.TheVariants as prepared
 use Rattle.dk_txn.specs.declared.transaction.Transaction.{Transaction}
 use Rattle.dk_txn.specs.Attempt.{own_commit}
 use Rattle.dk_txn.specs.Commits.{HistoryAfterRefusal, SaysHistory, ComesNext}
-use Rattle.dk_txn.specs.Transactions.{Outcome, Stands, Writes, outcome, prepared_as, ReadsBack, Comes, ConcludesHistory}
+use Rattle.dk_txn.specs.Transactions.{Outcome, AlreadyCommitted, ToWrite, outcome, prepared_as, ReadsBack, Comes, ConcludesHistory}
 
 -- ---- nothing was added
 
@@ -24,8 +24,8 @@ nothing_added refusals.Store commit events later same = inl same
 nothing_added refusal commit events later same = same
 
 nothing_said : (meant : Result Outcome Refusal) (refusal : Refusal) (commit : List Action) (events : List Told) → ConcludesHistory meant commit (Err refusal) events events
-nothing_said (Ok (Stands version)) refusal commit events = tt
-nothing_said (Ok (Writes writing)) refusal commit events = λ horizon lawful. nothing_added refusal commit events events refl
+nothing_said (Ok (AlreadyCommitted version)) refusal commit events = tt
+nothing_said (Ok (ToWrite writing)) refusal commit events = λ horizon lawful. nothing_added refusal commit events events refl
 nothing_said (Err cause) refusal commit events = λ horizon lawful. nothing_added refusal commit events events refl
 
 pub refused_says : (told later : Option (List Told)) (limits : Limits) (t : Transaction) (now : ℤ) (refusal : Refusal) (commit : List Action) → later ≡ told
@@ -37,13 +37,13 @@ refused_says (Some events) (Some later) limits t now refusal commit same =
     let at : later ≡ events = cc in
     subst (λ after. ConcludesHistory (outcome events limits t now) commit (Err refusal) events after) (sym at) (nothing_said (outcome events limits t now) refusal commit events)
 
-pub standing_says : (told later : Option (List Told)) (limits : Limits) (t : Transaction) (now passed : ℤ) (what : Prepared) (version : ℕ) (result : Result Committed Refusal) (commit : List Action) → passed ≡ now → later ≡ told
-    → what ≡ prepared.Standing version → IfSome told (λ events. outcome events limits t passed ≡ Ok (prepared_as what))
+pub already_says : (told later : Option (List Told)) (limits : Limits) (t : Transaction) (now passed : ℤ) (what : Prepared) (version : ℕ) (result : Result Committed Refusal) (commit : List Action) → passed ≡ now → later ≡ told
+    → what ≡ prepared.AlreadyCommitted version → IfSome told (λ events. outcome events limits t passed ≡ Ok (prepared_as what))
     → IfBoth told later (λ events after. ConcludesHistory (outcome events limits t now) commit result events after)
-standing_says None None limits t now passed what version result commit moment same is means = tt
-standing_says None (Some later) limits t now passed what version result commit moment same is means = absurd (let no : ◌≡◌ {A = Option (List Told)} (Some later) None = same in cc)
-standing_says (Some events) None limits t now passed what version result commit moment same is means = absurd (let no : ◌≡◌ {A = Option (List Told)} None (Some events) = same in cc)
-standing_says (Some events) (Some later) limits t now passed what version result commit moment same is means =
+already_says None None limits t now passed what version result commit moment same is means = tt
+already_says None (Some later) limits t now passed what version result commit moment same is means = absurd (let no : ◌≡◌ {A = Option (List Told)} (Some later) None = same in cc)
+already_says (Some events) None limits t now passed what version result commit moment same is means = absurd (let no : ◌≡◌ {A = Option (List Told)} None (Some events) = same in cc)
+already_says (Some events) (Some later) limits t now passed what version result commit moment same is means =
     subst (λ (meant : Result Outcome Refusal). ConcludesHistory meant commit result events later) (sym (ap (λ (n : ℤ). outcome events limits t n) (sym moment) ∙ means ∙ ap (λ (p : Prepared). Ok (prepared_as p)) is)) tt
 
 -- ---- one commit was written
@@ -58,7 +58,7 @@ module _ (limits : Limits) (t : Transaction) (now passed : ℤ) (what : Prepared
   abbrev ComesTold : Option (List Told) → Type 0
   ComesTold told = IfSome told (λ events. Comes (outcome events limits t now) own events)
 
-  is_meant : (events : List Told) → outcome events limits t passed ≡ Ok (prepared_as what) → outcome events limits t now ≡ Ok (Writes (writing.version, writing.text.items))
+  is_meant : (events : List Told) → outcome events limits t passed ≡ Ok (prepared_as what) → outcome events limits t now ≡ Ok (ToWrite (writing.version, writing.text.items))
   is_meant events means = ap (λ (n : ℤ). outcome events limits t n) (sym moment) ∙ means ∙ ap (λ (p : Prepared). Ok (prepared_as p)) is
 
   comes_told : (told : Option (List Told)) → Means told → ComesTold told → IfSome told (ComesNext writing.version own)

@@ -1,4 +1,9 @@
 pub mod AtLatest
+mod Clashes
+mod Effects
+mod Headed
+mod RulesOfLaw
+mod Refusals
 pub mod Concluding
 pub mod Next
 pub mod Lawfully
@@ -9,6 +14,5 @@ pub mod NotAbove
 pub mod ReadWinners
 pub mod Preparing
 pub mod Readable
-pub mod RuleWalks
 pub mod Starts
 pub mod Written

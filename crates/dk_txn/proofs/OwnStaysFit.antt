@@ -1,5 +1,5 @@
 -- A transaction stands to the log as it should after its own commit, too.
-use Rattle.std.proofs.Common.{◌≡◌, ℕ, ℤ, ◌+◌, ◌-◌, ◌<◌, ◌≤◌, Bool, true, false, List, [], ◌∷◌, length, length-append, take, refl, ap, sym, subst, ◌∙◌, arith, inl, inr, ◌||◌}
+use Rattle.std.proofs.Common.{◌≡◌, ℕ, ℤ, ◌+◌, ◌<◌, ◌≤◌, Bool, true, false, List, [], ◌∷◌, length, length-append, take, refl, ap, sym, subst, ◌∙◌, arith, inl, inr, ◌||◌}
 use Rattle.std.specs.Prelude.{Option, Some, None, Result, Ok, Err, IfSome, is_some, slice_get}
 use Rattle.std.specs.List.{list_any}
 use Rattle.std.proofs.lemmas.Bool.{cases_lt}
@@ -14,10 +14,9 @@ use Rattle.dk_engine.specs.declared.refusal.Refusal.{Refusal}
 use Rattle.dk_engine.specs.declared.refusal.Refusal.TheVariants as refusals
 use Rattle.dk_lawful.specs.Actors as actors
 use Rattle.dk_lawful.specs.Agree.{Agree}
-use Rattle.dk_lawful.specs.History.{RatifiedCommit, by_file, history, commits_of, table}
+use Rattle.dk_lawful.specs.History.{RatifiedCommit, by_file, history, commits_of}
 use Rattle.dk_lawful.specs.Ids.{HasId, StandsNowhere, says}
 use Rattle.dk_lawful.specs.Kept.{IfBoth, IsSameHistory, HasOneMore, KeepsLawful, StaysLawful}
-use Rattle.dk_lawful.specs.Rules.{IsValidNext}
 use Rattle.dk_lawful.specs.Lawful.{Lawful}
 use Rattle.dk_lawful.proofs.Lists.{slice_get-before, slice_get-end}
 use Rattle.dk_lawful.proofs.Sound.{length_commits}
@@ -26,7 +25,7 @@ use Rattle.dk_txn.specs.declared.commit.Committed.{Committed}
 use Rattle.dk_txn.specs.declared.transaction.Transaction.{Transaction}
 use Rattle.dk_txn.specs.Attempt.{Writing}
 use Rattle.dk_txn.specs.Commits.{CommitRefuses, HistoryAfterRefusal}
-use Rattle.dk_txn.specs.Transactions.{Outcome, Stands, Writes, outcome, Concludes, Comes, ConcludesHistory, Remembers}
+use Rattle.dk_txn.specs.Transactions.{Outcome, AlreadyCommitted, ToWrite, outcome, Concludes, Comes, ConcludesHistory, Remembers}
 use Rattle.dk_txn.specs.TransactionHistory.{actor_of, IsFit, own_of, CommitsOwn, SaysOwn}
 use Rattle.dk_txn.proofs.FitTransactions.{fit_is_next, fit_comes, fit_had, stands_after}
 use Rattle.dk_txn.proofs.Lawfully.{nothing_added}
@@ -145,7 +144,7 @@ module _ (events later : List Told) (limits : Limits) (t after : Transaction) (n
 
   says_by : (meant : Result Outcome Refusal) → outcome events limits t now ≡ meant → (answer : Result Committed Refusal) → result ≡ answer → Concludes meant events answer (Some later)
       → ConcludesHistory meant (own_of t) answer events later → CommitsOwn t after answer events later horizon
-  says_by (Ok (Stands version)) is (Ok committed) answers did said =
+  says_by (Ok (AlreadyCommitted version)) is (Ok committed) answers did said =
       let same : later ≡ events = same_told did.1 in
       let at : committed.version ≡ version = did.0 in
       let has : HasId (history events) committed.version (id_text t.id) =
@@ -157,20 +156,20 @@ module _ (events later : List Told) (limits : Limits) (t after : Transaction) (n
             (fits_same events later horizon t fit (same_history same) (Some committed.version)
             (answer_has committed.version (subst (λ (es : List Told). HasId (history es) committed.version (id_text t.id)) (sym same) has)));
       }
-  says_by (Ok (Stands version)) is (Err refusal) answers did said =
+  says_by (Ok (AlreadyCommitted version)) is (Err refusal) answers did said =
       let same = same_history (same_told did.1) in
       record { lawful = lawful_later; history = nothing_added refusal (own_of t) events later same; fit = fit_same same (as_before remembers refusal answers) }
-  says_by (Ok (Writes writing)) is (Ok committed) answers did said =
+  says_by (Ok (ToWrite writing)) is (Ok committed) answers did said =
       let (at, more) = said horizon lawful in
       let next = fit_is_next events horizon limits t now writing lawful fit is in
       record {
         lawful = lawful_later;
-        history = inr (record { next = at; more = more; valid = subst (λ (v : ℕ). IsValidNext (table events) v (own_of t)) (next.next ∙ sym at) next.valid; free = next.free });
+        history = inr (record { next = at; more = more; valid = next.valid; free = next.free });
         fit = fit_answered committed.version (answered_as committed.version answers)
             (fits_more events later horizon t fit more next.nowhere (Some committed.version)
             (answer_has committed.version (subst (λ (v : ℕ). HasId (history later) v (id_text t.id)) (sym at) (has_at_end events later horizon t fit more next.nowhere))));
       }
-  says_by (Ok (Writes writing)) is (Err refusal) answers did said =
+  says_by (Ok (ToWrite writing)) is (Err refusal) answers did said =
       let next = fit_is_next events horizon limits t now writing lawful fit is in
       let history_after = said horizon lawful in
       record { lawful = lawful_later; history = history_after; fit = fit_refused refusal history_after next.nowhere (as_before remembers refusal answers) }

@@ -22,7 +22,7 @@ use Rattle.dk_listing.specs.Latest.{latest_of}
 use Rattle.dk_listing.specs.OfEvents.{IsListingOf}
 use Rattle.dk_listing.proofs.LatestOf.{latest_standing}
 use Rattle.dk_segment.proofs.Agree.{walked_none}
-use Rattle.dk_snapshot.specs.Catalogue.{Surveys}
+use Rattle.dk_snapshot.specs.Surveyed.{Surveys}
 use Rattle.dk_snapshot.specs.Steps.{AreSized}
 use Rattle.dk_txn.specs.declared.start.Start.{Start}
 use Rattle.dk_txn.specs.declared.transaction.Transaction.{Transaction}
@@ -33,7 +33,7 @@ use Rattle.dk_txn.proofs.Starts.{chosen, not_chosen}
 use Rattle.dk_txn.proofs.Written.{allowed_reads}
 use Rattle.dk_txn.specs.Attempt.{last_version, own_commit, commit_text, allowed, Writing, if_allowed, if_within}
 use Rattle.dk_txn.specs.Winners.{Since, Own, Others, gone, or_gone, since_steps, since_sources, sources, commit_at, AreWinners}
-use Rattle.dk_txn.specs.Transactions.{Reached, After, come_to, headed, oldest_of, unless_conflict, and_also, rules_keep, may_come, reached, writing_at, Outcome, Writes, to_write, outcome_after, reached_by, reached_at, outcome_at, next_after, outcome}
+use Rattle.dk_txn.specs.Transactions.{Reached, After, come_to, headed, oldest_of, unless_conflict, and_also, rules_keep, may_come, reached, writing_at, Outcome, ToWrite, to_write, outcome_after, reached_by, reached_at, outcome_at, next_after, outcome}
 
 -- ---- a winner that is missing is gone
 
@@ -192,7 +192,7 @@ module _ (t : Transaction) (limits : Limits) (now : ℤ) (from : Start) (conflic
       ∙ ap (λ (m : Result (Unit {0}) Refusal). if_allowed m (if_within limits.object (from.version, commit_text t.id now t.actions.items))) (sym may)
 
   pub written_at : {X : Type 0} (view : X → Writing) (result : Result X Refusal) (writing : Writing) → text ≡ commit_text t.id now t.actions.items → if_within limits.object (from.version, text) ≡ Ok writing
-      → to_write (writing_at t limits now from conflict) ≡ Ok (Writes writing)
+      → to_write (writing_at t limits now from conflict) ≡ Ok (ToWrite writing)
   written_at view result writing is fit = ap to_write (sym (fits_at is) ∙ fit)
 
   pub refused_at : (refusal : Refusal) → text ≡ commit_text t.id now t.actions.items → Refuses refusal (if_within limits.object (from.version, text)) → Refuses refusal (to_write (writing_at t limits now from conflict))

@@ -10,12 +10,15 @@ use Rattle.dk_model.specs.declared.action.Action.{Action}
 use Rattle.dk_model.specs.declared.action.Action.TheVariants as action
 use Rattle.dk_model.specs.declared.state.TableState.{TableState}
 use Rattle.dk_model.specs.CommitText.{commit_of}
+use Rattle.dk_model.specs.State.{steps}
 use Rattle.dk_model.specs.Ranges.{IsWhole, IsProtocolInRange}
 use Rattle.dk_model.specs.ReadBack.{IsSound, IsReadable, own_info, written_of}
 use Rattle.dk_model.specs.Written.{own_info_line, text_of}
 use Rattle.dk_model.proofs.LinesBack.{own_reads_back, writable}
 use Rattle.dk_features.specs.Forms.{is_first_reader, has_form_with, has_form}
-use Rattle.dk_lawful.specs.Rules.{protocol_in, info_in, may_be_committed, may_follow, is_protocol_kept, is_plain_add, keeps_heads, keeps_kinds, keeps_paths_apart, keeps_names_apart, keeps_protocol, keeps_writer, keeps_rows, keeps_domains, keeps_adds, IsValidNext}
+use Rattle.dk_lawful.specs.Rules.{info_in, may_be_committed, may_follow, is_protocol_kept, is_plain_add, keeps_heads, keeps_kinds, keeps_paths_apart, keeps_names_apart, keeps_protocol, begins_unenabled, keeps_rows, keeps_domains, keeps_adds}
+use Rattle.dk_model.specs.Changes.{protocol_in}
+use Rattle.dk_lawful.specs.SoFar.{first_broken_so_far, is_written_so_far}
 
 -- the tests in a row that no rule broken passes
 passed : (kept : Bool) (rule : ℕ) (rest : Option ℕ) → (if not kept then Some rule else rest) ≡ None → (kept ≡ true) × (rest ≡ None)
@@ -98,17 +101,18 @@ pub record ReadsAsItself (actions : List Action) : Type 0 where
   pub written : written_of actions ≡ actions
 
 -- a commit that keeps the rules, by the commit's own line and the actions behind it
-pub valid_reads : (txn_id : List ℕ) (before : TableState) (version : ℕ) (actions : List Action) → IsValidNext before version (own_info txn_id ∷ actions) → ReadsAsItself actions
+pub valid_reads : (txn_id : List ℕ) (before : TableState) (version : ℕ) (actions : List Action) → first_broken_so_far before version (own_info txn_id ∷ actions) ≡ None → ReadsAsItself actions
 valid_reads txn_id before version actions valid =
     let one = passed (keeps_heads version (own_info txn_id ∷ actions)) 1 _ valid in
     let two = passed (keeps_kinds (own_info txn_id ∷ actions)) 2 _ one.1 in
     let three = passed (keeps_paths_apart (own_info txn_id ∷ actions)) 3 _ two.1 in
     let four = passed (keeps_names_apart (own_info txn_id ∷ actions)) 4 _ three.1 in
     let five = passed (keeps_protocol before (own_info txn_id ∷ actions)) 5 _ four.1 in
-    let six = passed (keeps_writer before (own_info txn_id ∷ actions)) 6 _ five.1 in
+    let six = passed (is_written_so_far (steps before (own_info txn_id ∷ actions)).protocol (steps before (own_info txn_id ∷ actions)).metadata) 6 _ five.1 in
     let seven = passed (keeps_rows before (own_info txn_id ∷ actions)) 7 _ six.1 in
     let eight = passed (keeps_domains before (own_info txn_id ∷ actions)) 8 _ seven.1 in
-    let eleven = passed (keeps_adds (own_info txn_id ∷ actions)) 11 _ eight.1 in
+    let nine = passed (begins_unenabled version (steps before (own_info txn_id ∷ actions)).metadata) 9 _ eight.1 in
+    let eleven = passed (keeps_adds (own_info txn_id ∷ actions)) 11 _ nine.1 in
     let kinds = and_parts (nat_le (suc (length (filter_map info_in actions))) 1) (list_all may_be_committed actions) two.0 in
     let few : suc (length (filter_map info_in actions)) ≤ 1 = leb-true (suc (length (filter_map info_in actions))) 1 kinds.0 in
     record { each = readable before.protocol actions five.0 kinds.1 eleven.0; written = all_written actions (omega arith) kinds.1 }

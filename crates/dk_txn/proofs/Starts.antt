@@ -16,7 +16,7 @@ use Rattle.dk_listing.specs.OfEvents.{IsListingOf}
 use Rattle.dk_listing.proofs.LatestOf.{latest_standing}
 use Rattle.dk_lawful.specs.declared.segment.Choice.{Choice}
 use Rattle.dk_snapshot.specs.declared.table.Snapshot.{Snapshot}
-use Rattle.dk_snapshot.specs.Catalogue.{Surveys}
+use Rattle.dk_snapshot.specs.Surveyed.{Surveys}
 use Rattle.dk_snapshot.specs.Opening.{opened, usual_choice}
 use Rattle.dk_txn.specs.declared.start.Start.{Start}
 use Rattle.dk_txn.specs.Attempt.{last_version, after_snapshot, start_after, start}

@@ -18,12 +18,12 @@ use Rattle.dk_engine.specs.declared.refusal.Refusal.{Refusal}
 use Rattle.dk_engine.specs.declared.refusal.Refusal.TheVariants as refusals
 use Rattle.dk_lawful.specs.History.{next_version}
 use Rattle.dk_lawful.specs.Lawful.{Lawful}
-use Rattle.dk_lawful.specs.Rules.{first_broken, IsValidNext}
+use Rattle.dk_lawful.specs.SoFar.{first_broken_so_far}
 use Rattle.dk_lawful.specs.Kept.{IfBoth, KeepsLawful, HistoryAfterPut}
 use Rattle.dk_lawful.proofs.Puts.{put_keeps_lawful, put_adds_commit}
 use Rattle.dk_txn.specs.declared.start.Start.{Start}
 use Rattle.dk_txn.specs.declared.commit.Committed.{Committed}
-use Rattle.dk_txn.specs.Attempt.{unsupported, verdict, own_commit, allowed}
+use Rattle.dk_txn.specs.Attempt.{unbuilt, verdict, own_commit, allowed}
 use Rattle.dk_txn.specs.Commits.{HistoryAfterCommit, SaysHistory, ComesNext}
 use Rattle.dk_txn.proofs.Readable.{valid_reads}
 
@@ -34,11 +34,16 @@ no_rule (Some name) broken u is = cc
 no_rule None (Some rule) u is = cc
 no_rule None None u is = refl
 
+pub no_name : (name : Option (List ℕ)) (broken : Option ℕ) (u : Unit {0}) → verdict name broken ≡ Ok u → name ≡ None
+no_name (Some name) broken u is = cc
+no_name None (Some rule) u is = refl
+no_name None None u is = refl
+
 pub allowed_reads : (from : Start) (actions : List Action) (id : ℕ) (text : List ℕ) (u : Unit {0}) → allowed from actions id ≡ Ok u
     → (AllByRecursion IsReadable actions → commit_of text ≡ Some (own_info (id_text id) ∷ written_of actions))
     → commit_of text ≡ Some (own_commit id actions)
 allowed_reads from actions id text u may reads =
-    let valid : IsValidNext from.before from.version (own_commit id actions) = no_rule (unsupported from.before) (first_broken from.before from.version (own_commit id actions)) u may in
+    let valid : first_broken_so_far from.before from.version (own_commit id actions) ≡ None = no_rule (unbuilt from.before actions) (first_broken_so_far from.before from.version (own_commit id actions)) u may in
     let itself = valid_reads (id_text id) from.before from.version actions valid in
     reads itself.each ∙ ap (λ (rest : List Action). Some (own_info (id_text id) ∷ rest)) itself.written
 

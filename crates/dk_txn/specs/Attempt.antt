@@ -8,7 +8,7 @@ use Rattle.dk_model.specs.declared.action.Protocol.{Protocol}
 use Rattle.dk_model.specs.declared.action.Metadata.{Metadata}
 use Rattle.dk_model.specs.declared.state.TableState.{TableState}
 use Rattle.dk_model.specs.Texts.{ByText}
-use Rattle.dk_model.specs.State.{empty_state}
+use Rattle.dk_model.specs.State.{empty_state, steps}
 use Rattle.dk_model.specs.ReadBack.{own_info}
 use Rattle.dk_model.specs.Written.{own_info_line, text_of}
 use Rattle.dk_paths.specs.Numbers.{id_text}
@@ -17,7 +17,7 @@ use Rattle.dk_engine.specs.declared.limits.Which.TheVariants as which
 use Rattle.dk_engine.specs.declared.refusal.Refusal.{Refusal}
 use Rattle.dk_engine.specs.declared.refusal.Refusal.TheVariants as refusals
 use Rattle.dk_features.specs.Support.{unwritten_name}
-use Rattle.dk_lawful.specs.Rules.{first_broken}
+use Rattle.dk_lawful.specs.SoFar.{awaited, first_broken_so_far}
 use Rattle.dk_listing.specs.OfEvents.{latest}
 use Rattle.dk_snapshot.specs.declared.table.Snapshot.{Snapshot}
 use Rattle.dk_snapshot.specs.Opening.{opened, usual_choice}
@@ -59,6 +59,10 @@ unsupported_of protocol metadata files = None
 abbrev pub unsupported : TableState → Option (List ℕ)
 unsupported before = unsupported_of before.protocol before.metadata before.files
 
+-- and then what the table, as the commit leaves it, asks for that isn't written so far
+abbrev pub unbuilt : TableState → List Action → Option (List ℕ)
+unbuilt before actions = option_or (unsupported before) (awaited (steps before actions).protocol)
+
 -- support comes before the rules
 abbrev pub verdict : Option (List ℕ) → Option ℕ → Result (Unit {0}) Refusal
 verdict (Some name) broken = Err (refusals.Unsupported name)
@@ -75,7 +79,7 @@ abbrev pub commit_text : ℕ → ℤ → List Action → List ℕ
 commit_text id now actions = own_info_line (id_text id) now ++ text_of actions
 
 abbrev pub allowed : Start → List Action → ℕ → Result (Unit {0}) Refusal
-allowed from actions id = verdict (unsupported from.before) (first_broken from.before from.version (own_commit id actions))
+allowed from actions id = verdict (unbuilt from.before actions) (first_broken_so_far from.before from.version (own_commit id actions))
 
 -- a version, and the text of its commit
 abbrev pub Writing : Type 0

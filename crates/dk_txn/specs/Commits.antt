@@ -1,6 +1,7 @@
 -- What a commit did to the events of the store and to the history, by its answer.
-use Rattle.std.specs.Prelude.{◌≡◌, ◌⊎◌, ℕ, ℤ, List, Option, Some, Result, Ok, Err, IsNone}
+use Rattle.std.specs.Prelude.{◌≡◌, ◌⊎◌, ℕ, ℤ, ◌+◌, ◌-◌, ◌^◌, ◌≤◌, Bool, true, false, List, Option, Some, Result, Ok, Err, IsNone, min}
 use Rattle.dk_store.specs.Told.{Told}
+use Rattle.dk_store.specs.Causes.{Rose}
 use Rattle.dk_store.specs.Objects.{object}
 use Rattle.dk_store.specs.Writing.{AddsMade}
 use Rattle.dk_model.specs.declared.action.Action.{Action}
@@ -34,6 +35,22 @@ CommitRefuses refusal meant events later = (meant ≡ Err refusal) × (later ≡
 abbrev pub Commits : Result Writing Refusal → List Told → Result Committed Refusal → Option (List Told) → Type 0
 Commits meant events (Ok committed) later = Writes meant events committed.version later
 Commits meant events (Err refusal) later = CommitRefuses refusal meant events later
+
+-- ---- clashes
+
+-- a count is greater by two than before, or stands at its type's end
+abbrev pub RoseTwice : ℕ → ℕ → Type 0
+RoseTwice before now = min (before + 2) (2 ^ 64 - 1) ≤ now
+
+-- whether it was answered that the path was taken
+abbrev pub was_taken : Result Committed Refusal → Bool
+was_taken (Err (refusals.Taken path)) = true
+was_taken result = false
+
+-- One attempt: after a clash it is answered that the path was taken, and nothing else is; without one nothing says so.
+abbrev pub CountsClash : Result Committed Refusal → ℕ → ℕ → Type 0
+CountsClash (Err (refusals.Taken path)) before now = Rose before now
+CountsClash result before now = now ≡ before
 
 -- ---- the history
 

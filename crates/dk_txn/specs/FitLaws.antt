@@ -1,28 +1,30 @@
 -- What a commit comes to of a transaction that stands to a lawful log as it should.
-use Rattle.std.specs.Prelude.{◌≡◌, ℤ, List, None, Ok}
+use Rattle.std.specs.Prelude.{◌≡◌, false, ℤ, List, None, Ok}
 use Rattle.dk_store.specs.Told.{Told}
 use Rattle.dk_conflicts.specs.Conflicts.{conflict_from}
 use Rattle.dk_engine.specs.declared.limits.Limits.{Limits}
-use Rattle.dk_lawful.specs.History.{next_version, table}
+use Rattle.dk_lawful.specs.History.{commits_of, history, next_version, table}
 use Rattle.dk_lawful.specs.Ids.{StandsNowhere}
 use Rattle.dk_lawful.specs.Lawful.{Lawful}
+use Rattle.dk_lawful.specs.Managed.{is_managed}
 use Rattle.dk_paths.specs.Numbers.{id_text}
 use Rattle.dk_lawful.specs.Rules.{IsValidNext}
 use Rattle.dk_txn.specs.declared.transaction.Transaction.{Transaction}
 use Rattle.dk_txn.specs.Attempt.{Writing}
-use Rattle.dk_txn.specs.Transactions.{Writes, outcome, Comes}
+use Rattle.dk_txn.specs.Transactions.{ToWrite, outcome, Comes}
 use Rattle.dk_txn.specs.TransactionHistory.{IsFit, later_commits, own_of}
 
--- what is to be written is the next version, keeps the rules after the table's state, none of the commits since the snapshot is in its
+-- what is to be written is the next version of a table that no catalogue manages, keeps the rules after its commits, none of the commits since the snapshot is in its
 -- way, and its id stands nowhere yet
 pub record IsNextOf (events : List Told) (t : Transaction) (writing : Writing) : Type 0 where
   pub next : writing.0 ≡ next_version events
-  pub valid : IsValidNext (table events) writing.0 (own_of t)
+  pub by_file : is_managed (table events) ≡ false
+  pub valid : IsValidNext (commits_of (history events)) (own_of t)
   pub free : conflict_from t.reads t.actions.items t.from.version (later_commits t events) ≡ None
   pub nowhere : StandsNowhere events (id_text t.id)
 
 abbrev pub FitIsNext : Type 0
-FitIsNext = (events : List Told) (horizon : ℤ) (limits : Limits) (t : Transaction) (now : ℤ) (writing : Writing) → Lawful events horizon → IsFit events horizon t → outcome events limits t now ≡ Ok (Writes writing)
+FitIsNext = (events : List Told) (horizon : ℤ) (limits : Limits) (t : Transaction) (now : ℤ) (writing : Writing) → Lawful events horizon → IsFit events horizon t → outcome events limits t now ≡ Ok (ToWrite writing)
     → IsNextOf events t writing
 
 -- and so it may come next

@@ -7,7 +7,7 @@ use Rattle.dk_paths.specs.Numbers.{id_text}
 use Rattle.dk_conflicts.specs.Conflicts.{conflict_from}
 use Rattle.dk_engine.specs.declared.refusal.Refusal.{Refusal}
 use Rattle.dk_lawful.specs.Actors as actors
-use Rattle.dk_lawful.specs.History.{history, next_version, commits_of, table}
+use Rattle.dk_lawful.specs.History.{history, next_version, commits_of}
 use Rattle.dk_lawful.specs.Ids.{HasId}
 use Rattle.dk_lawful.specs.Kept.{HasOneMore}
 use Rattle.dk_lawful.specs.Lawful.{Lawful}
@@ -50,7 +50,7 @@ pub record HadCommit (t : Transaction) (version : ℕ) (events later : List Told
 pub record AddsOwn (t : Transaction) (version : ℕ) (events later : List Told) : Type 0 where
   pub next : version ≡ next_version events
   pub more : HasOneMore (own_of t) events later
-  pub valid : IsValidNext (table events) version (own_of t)
+  pub valid : IsValidNext (commits_of (history events)) (own_of t)
   pub free : conflict_from t.reads t.actions.items t.from.version (later_commits t events) ≡ None
 
 abbrev pub HistoryAfter : Transaction → Result Committed Refusal → List Told → List Told → Type 0

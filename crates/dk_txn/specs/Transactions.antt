@@ -1,6 +1,6 @@
 -- What a commit of a transaction comes to, by the events of the store alone (Delta Lake's PROTOCOL.md, "Delta Log Entries", "ACID
 -- guarantees"): optimistic concurrency.
-use Rattle.std.specs.Prelude.{ℕ, ℤ, ◌+◌, ◌-◌, ◌^◌, ◌<◌, ◌≡◌, ◌==◌, List, [], Option, Some, None, Result, Ok, Err, nat_lt, max, option_map, if◌then◌else◌}
+use Rattle.std.specs.Prelude.{ℕ, ℤ, ◌+◌, ◌-◌, ◌^◌, ◌<◌, ◌≡◌, ◌⊎◌, ◌==◌, List, [], Option, Some, None, Result, Ok, Err, IfSome, nat_lt, max, option_map, if◌then◌else◌}
 use Rattle.std.specs.Option.{option_or}
 use Rattle.dk_store.specs.Told.{Told}
 use Rattle.dk_model.specs.declared.action.Action.{Action}
@@ -30,7 +30,7 @@ use Rattle.dk_txn.specs.declared.start.Start.{Start}
 use Rattle.dk_txn.specs.declared.transaction.Transaction.{Transaction}
 use Rattle.dk_txn.specs.declared.winners.Found.{Found}
 use Rattle.dk_txn.specs.declared.winners.Found.TheVariants as found
-use Rattle.dk_txn.specs.Attempt.{start_of, last_version, own_commit, commit_text, allowed, Writing, if_allowed, if_within}
+use Rattle.dk_txn.specs.Attempt.{start, start_of, last_version, own_commit, commit_text, allowed, Writing, if_allowed, if_within}
 use Rattle.dk_txn.specs.Commits.{Commits, ComesNext, SaysHistory}
 use Rattle.dk_txn.specs.Winners.{Since, Own, Others, since, since_steps, or_gone}
 
@@ -110,16 +110,16 @@ writing_at t limits now from conflict = if_allowed (may_come t from conflict) (i
 
 -- its own commit stands already, as this version; or this is to be written
 pub data Outcome : Type 0 where
-  Stands : ℕ → Outcome
-  Writes : Writing → Outcome
+  AlreadyCommitted : ℕ → Outcome
+  ToWrite : Writing → Outcome
 
 abbrev pub to_write : Result Writing Refusal → Result Outcome Refusal
-to_write (Ok writing) = Ok (Writes writing)
+to_write (Ok writing) = Ok (ToWrite writing)
 to_write (Err refusal) = Err refusal
 
 -- by what came since, where a commit of this version comes next
 abbrev pub outcome_after : Transaction → Limits → ℤ → ℕ → Result Reached Refusal → Result Outcome Refusal
-outcome_after t limits now next (Ok (At_own version)) = Ok (Stands version)
+outcome_after t limits now next (Ok (At_own version)) = Ok (AlreadyCommitted version)
 outcome_after t limits now next (Ok (After state conflict)) = to_write (writing_at t limits now (record { version = next; before = state }) conflict)
 outcome_after t limits now next (Err refusal) = Err refusal
 
@@ -146,8 +146,8 @@ abbrev pub outcome : List Told → Limits → Transaction → ℤ → Result Out
 outcome events limits t now = outcome_at events limits t now (next_after t.from.version (latest events))
 
 abbrev pub version_of : Outcome → ℕ
-version_of (Stands version) = version
-version_of (Writes writing) = writing.0
+version_of (AlreadyCommitted version) = version
+version_of (ToWrite writing) = writing.0
 
 abbrev pub version_meant : Result Outcome Refusal → Result ℕ Refusal
 version_meant (Ok outcome) = Ok (version_of outcome)
@@ -155,17 +155,17 @@ version_meant (Err refusal) = Err refusal
 
 -- what the code prepared
 abbrev pub prepared_as : Prepared → Outcome
-prepared_as (prepared.Standing version) = Stands version
-prepared_as (prepared.Writing writing) = Writes (writing.version, writing.text.items)
+prepared_as (prepared.AlreadyCommitted version) = AlreadyCommitted version
+prepared_as (prepared.Writing writing) = ToWrite (writing.version, writing.text.items)
 
 -- what is to be written has a version that there can be
 abbrev pub IsSmall : Prepared → Type 0
-IsSmall (prepared.Standing version) = Unit {0}
+IsSmall (prepared.AlreadyCommitted version) = Unit {0}
 IsSmall (prepared.Writing writing) = writing.version < 2 ^ 63
 
 -- what is to be written reads back as the own commit
 abbrev pub ReadsBack : ℕ → List Action → Prepared → Type 0
-ReadsBack id actions (prepared.Standing version) = Unit {0}
+ReadsBack id actions (prepared.AlreadyCommitted version) = Unit {0}
 ReadsBack id actions (prepared.Writing writing) = commit_of writing.text.items ≡ Some (own_commit id actions)
 
 -- ---- what a commit did
@@ -177,22 +177,43 @@ AnswersVersion version (Err refusal) = Refuses refusal (Ok version)
 
 -- By what is meant over the events that were told: an own commit that stands is answered, with no event; else it is as with any commit.
 abbrev pub Concludes : Result Outcome Refusal → List Told → Result Committed Refusal → Option (List Told) → Type 0
-Concludes (Ok (Stands version)) events result later = AnswersVersion version result × (later ≡ Some events)
-Concludes (Ok (Writes writing)) events result later = Commits (Ok writing) events result later
+Concludes (Ok (AlreadyCommitted version)) events result later = AnswersVersion version result × (later ≡ Some events)
+Concludes (Ok (ToWrite writing)) events result later = Commits (Ok writing) events result later
 Concludes (Err refusal) events result later = Commits (Err refusal) events result later
+
+-- ---- a transaction that begins, puts and commits in one call
+
+-- it has read so much, is to commit these actions under this id, and began at the latest version
+pub record IsWhole (read : Reads) (own : List Action) (drawn : ℕ) (t : Transaction) : Type 0 where
+  pub reads : t.reads ≡ read
+  pub actions : t.actions.items ≡ own
+  pub id : t.id ≡ drawn
+  pub committed : t.committed ≡ None
+
+-- what was answered is what the commit of such a transaction comes to
+pub record IsTransacted (limits : Limits) (now : ℤ) (read : Reads) (own : List Action) (drawn : ℕ) (told : Option (List Told)) (result : Result Committed Refusal) (later : Option (List Told)) : Type 0 where
+  pub transaction : Transaction
+  pub whole : IsWhole read own drawn transaction
+  pub begins : IfSome told (λ events. start events limits now ≡ Ok transaction.from)
+  pub concludes : IfSome told (λ events. Concludes (outcome events limits transaction now) events result later)
+
+-- or its beginning was refused, and nothing was put
+abbrev pub Transacts : Limits → ℤ → Reads → List Action → ℕ → Option (List Told) → Result Committed Refusal → Option (List Told) → Type 0
+Transacts limits now read own drawn told (Ok committed) later = IsTransacted limits now read own drawn told (Ok committed) later
+Transacts limits now read own drawn told (Err refusal) later = (later ≡ told) ⊎ IsTransacted limits now read own drawn told (Err refusal) later
 
 -- ---- what it did on a lawful log
 
 -- what is to be written may come next
 abbrev pub Comes : Result Outcome Refusal → List Action → List Told → Type 0
-Comes (Ok (Writes writing)) commit events = ComesNext writing.0 commit events
-Comes (Ok (Stands version)) commit events = Unit {0}
+Comes (Ok (ToWrite writing)) commit events = ComesNext writing.0 commit events
+Comes (Ok (AlreadyCommitted version)) commit events = Unit {0}
 Comes (Err refusal) commit events = Unit {0}
 
 -- what the answer says of the history; where the own commit stands already it says nothing more
 abbrev pub ConcludesHistory : Result Outcome Refusal → List Action → Result Committed Refusal → List Told → List Told → Type 0
-ConcludesHistory (Ok (Writes writing)) commit result events later = SaysHistory commit result events later
-ConcludesHistory (Ok (Stands version)) commit result events later = Unit {0}
+ConcludesHistory (Ok (ToWrite writing)) commit result events later = SaysHistory commit result events later
+ConcludesHistory (Ok (AlreadyCommitted version)) commit result events later = Unit {0}
 ConcludesHistory (Err refusal) commit result events later = SaysHistory commit result events later
 
 -- ---- what stays

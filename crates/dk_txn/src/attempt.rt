@@ -1,13 +1,14 @@
 //! What a commit is to write.
-ghost use Rattle.std.specs.Prelude.{◌≡◌, ℕ, List, Ok, Err, Some, IfOk};
+ghost use Rattle.std.specs.Prelude.{IfErr, ◌≡◌, ℕ, Ok, Err, Some, IfOk};
 ghost use Rattle.dk_engine.specs.Answers.{Gives};
-ghost use Rattle.dk_txn.specs.Attempt.{unsupported, allowed, if_within};
+ghost use Rattle.dk_txn.specs.Attempt.{allowed, if_within, unbuilt, unsupported};
+ghost use Rattle.dk_txn.specs.Refusals.{CheckRefuses};
 
-use crate::rules::first_broken;
 use crate::start::Start;
 use dk_engine::{Refusal, Which};
 use dk_features::unwritten_name;
 use dk_model::{Action, TableState, Text};
+use dk_rules::{awaited_after, first_broken};
 use dk_snapshot::unreadable;
 use std::alloc::{AllocError, Global};
 
@@ -34,13 +35,30 @@ fn unsupported(alloc: Global, before: &TableState) -> Result<Option<Text>, Alloc
     }
 }
 
+/// What of the table isn't supported, and then what of it as the commit leaves it isn't written so far, by its name.
+fn unbuilt(
+    alloc: Global,
+    before: &TableState,
+    actions: &[Action],
+) -> Result<Option<Text>, AllocError>
+    ensures { IfOk result (λ name. name ≡ unbuilt before.now actions.now) }
+{
+    match unsupported(alloc, before)? {
+        Some(name) => Ok(Some(name)),
+        None => match awaited_after(before, actions) {
+            None => Ok(None),
+            Some(name) => Ok(Some(Text::from_str(alloc, name.as_str())?)),
+        },
+    }
+}
+
 /// Tests whether a commit may come there: that the table is read and written, and then the rules.
 pub(crate) fn check(alloc: Global, from: &Start, actions: &[Action]) -> Result<(), Refusal>
     ensures means { (id : ℕ) → Gives (λ u. u) result (allowed from.now actions.now id) }
     ensures store { result ≡ Err Refusal.Store → ⊥ }
-    ensures taken { (path : List ℕ) → result ≡ Err (Refusal.Taken path) → ⊥ }
+    ensures refusals { IfErr result CheckRefuses }
 {
-    if let Some(name) = unsupported(alloc, &from.before)? {
+    if let Some(name) = unbuilt(alloc, &from.before, actions)? {
         return Err(Refusal::Unsupported { name });
     }
     match first_broken(alloc, &from.before, from.version, actions)? {
@@ -55,7 +73,7 @@ pub(crate) fn within(limit: u64, version: u64, text: Vec<u8>) -> Result<Writing,
     ensures version { IfOk result (λ w. w.version ≡ version) }
     ensures text { IfOk result (λ w. w.text.items ≡ text.items) }
     ensures store { result ≡ Err Refusal.Store → ⊥ }
-    ensures taken { (path : List ℕ) → result ≡ Err (Refusal.Taken path) → ⊥ }
+    ensures refusals { IfErr result CheckRefuses }
 {
     let size = text.len() as u64;
     if limit < size {

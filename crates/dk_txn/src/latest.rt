@@ -1,9 +1,12 @@
 //! A commit that begins at the latest version.
-ghost use Rattle.std.specs.Prelude.{◌≡◌, ◌≤◌, ◌<◌, ◌^◌, ◌++◌, ℕ, List, Ok, Err, None, IfOk, IfSome, OnOk, is_some};
-ghost use Rattle.dk_store.specs.Causes.{Rose};
+ghost use Rattle.std.specs.Prelude.{IfErr, ◌≡◌, ◌<◌, ◌^◌, ◌++◌, ℕ, List, Ok, Err, None, IfOk, OnOk};
+ghost use Rattle.dk_store.specs.Seen.{IfTold};
+ghost use Rattle.dk_engine.specs.Effects.{MayPut};
 ghost use Rattle.dk_lawful.specs.Kept.{IfBoth, KeepsLawful};
 ghost use Rattle.dk_txn.specs.Attempt.{attempt, own_commit, start};
-ghost use Rattle.dk_txn.specs.Commits.{Commits, SaysHistory};
+ghost use Rattle.dk_txn.specs.Commits.{Commits, RoseTwice, SaysHistory};
+ghost use Rattle.dk_txn.specs.Transactions.{Concludes, Transacts, outcome};
+ghost use Rattle.dk_txn.specs.Refusals.{CommitAtLatestRefuses, TransactionRefuses};
 
 use crate::commit::Committed;
 use crate::transaction::Transaction;
@@ -25,7 +28,7 @@ fn put_all(transaction: &mut Transaction, actions: Vec<Action>) -> Result<(), Al
 }
 
 /// The transaction with these actions laid behind those that are to be committed.
-fn filled(begun: Transaction, actions: Commit) -> Result<Transaction, AllocError>
+fn with_actions(begun: Transaction, actions: Commit) -> Result<Transaction, AllocError>
     ensures laid { IfOk result (λ t. t.actions.items ≡ begun.actions.items ++ actions) }
     ensures same { IfOk result (λ t. t ≡ record begun { actions = t.actions }) }
 {
@@ -37,28 +40,27 @@ fn filled(begun: Transaction, actions: Commit) -> Result<Transaction, AllocError
 }
 
 /// Commits a transaction that has not committed yet. The clauses speak of the case that nothing came since it began.
-fn commit_filled(
+fn commit_fresh(
     alloc: Global,
     store: &mut dyn Store,
     json: &mut dyn JsonHandler,
     limits: Limits,
-    filled: Transaction,
+    fresh: Transaction,
     now: i64,
 ) -> Result<Committed, Refusal>
-    requires fresh { filled.committed ≡ None }
-    requires small { filled.from.version < 2 ^ 63 }
-    ensures commits { IfSome (told store.old) (λ events. start events limits now ≡ Ok filled.from
-        → Commits (attempt events limits filled.actions.items now filled.id) events result (told store.new)) }
-    ensures alike { is_some (told store.new) ≡ is_some (told store.old) }
-    ensures later { store_faults store.old ≤ store_faults store.new }
-    ensures clashes_later { clashes store.old ≤ clashes store.new }
-    ensures store { result ≡ Err Refusal.Store → Rose (store_faults store.old) (store_faults store.new) }
-    ensures taken { (path : List ℕ) → result ≡ Err (Refusal.Taken path) → Rose (clashes store.old) (clashes store.new) }
-    ensures lawful { IfSome (told store.old) (λ events. start events limits now ≡ Ok filled.from) → KeepsLawful (told store.old) (told store.new) }
-    ensures history { IfSome (told store.old) (λ events. start events limits now ≡ Ok filled.from)
-        → IfBoth (told store.old) (told store.new) (SaysHistory (own_commit filled.id filled.actions.items) result) }
+    requires uncommitted { fresh.committed ≡ None }
+    requires small { fresh.from.version < 2 ^ 63 }
+    ensures commits { IfTold (seen store.old) (λ events. start events limits now ≡ Ok fresh.from
+        → Commits (attempt events limits fresh.actions.items now fresh.id) events result (seen store.new).told) }
+    ensures concludes { IfTold (seen store.old) (λ events. Concludes (outcome events limits fresh now) events result (seen store.new).told) }
+    ensures puts { MayPut (seen store.old) (seen store.new) result }
+    ensures refusals { IfErr result TransactionRefuses }
+    ensures twice { (path : List ℕ) → result ≡ Err (Refusal.Taken path) → RoseTwice (seen store.old).clashes (seen store.new).clashes }
+    ensures lawful { IfTold (seen store.old) (λ events. start events limits now ≡ Ok fresh.from) → KeepsLawful (seen store.old).told (seen store.new).told }
+    ensures history { IfTold (seen store.old) (λ events. start events limits now ≡ Ok fresh.from)
+        → IfBoth (seen store.old).told (seen store.new).told (SaysHistory (own_commit fresh.id fresh.actions.items) result) }
 {
-    let mut transaction = filled;
+    let mut transaction = fresh;
     transaction.commit(alloc, store, json, limits, now)
 }
 
@@ -85,22 +87,21 @@ pub fn commit_at_latest(
     now: i64,
     id: u128,
 ) -> Result<Committed, Refusal>
-    ensures commits { IfSome (told store.old) (λ events. Commits (attempt events limits actions now id) events result (told store.new)) }
-    ensures alike { is_some (told store.new) ≡ is_some (told store.old) }
-    ensures later { store_faults store.old ≤ store_faults store.new }
-    ensures clashes_later { clashes store.old ≤ clashes store.new }
-    ensures store { result ≡ Err Refusal.Store → Rose (store_faults store.old) (store_faults store.new) }
-    ensures taken { (path : List ℕ) → result ≡ Err (Refusal.Taken path) → Rose (clashes store.old) (clashes store.new) }
+    ensures commits { IfTold (seen store.old) (λ events. Commits (attempt events limits actions now id) events result (seen store.new).told) }
+    ensures puts { MayPut (seen store.old) (seen store.new) result }
+    ensures refusals { IfErr result CommitAtLatestRefuses }
+    ensures twice { (path : List ℕ) → result ≡ Err (Refusal.Taken path) → RoseTwice (seen store.old).clashes (seen store.new).clashes }
+    ensures transacts { Transacts limits now reads actions id (seen store.old).told result (seen store.new).told }
 
     // In the subject's own words.
-    ensures lawful { KeepsLawful (told store.old) (told store.new) }
-    ensures history { IfBoth (told store.old) (told store.new) (SaysHistory (own_commit id actions) result) }
+    ensures lawful { KeepsLawful (seen store.old).told (seen store.new).told }
+    ensures history { IfBoth (seen store.old).told (seen store.new).told (SaysHistory (own_commit id actions) result) }
 {
     match Transaction::begin_latest(alloc, store, json, limits, reads, now, id) {
         Err(refusal) => Err(refusal),
-        Ok(begun) => match filled(begun, actions) {
+        Ok(begun) => match with_actions(begun, actions) {
             Err(AllocError) => Err(Refusal::OutOfMemory),
-            Ok(transaction) => commit_filled(alloc, store, json, limits, transaction, now),
+            Ok(transaction) => commit_fresh(alloc, store, json, limits, transaction, now),
         },
     }
 }

@@ -7,13 +7,8 @@ mod commit;
 mod latest;
 pub mod laws;
 mod prepared;
-mod rules;
 mod start;
-#[cfg(test)]
-mod tests;
 mod text;
-#[cfg(test)]
-mod transacting;
 mod transaction;
 mod winners;
 

@@ -1,11 +1,13 @@
 //! What a commit of a transaction comes to.
-ghost use Rattle.std.specs.Prelude.{◌≡◌, ◌≤◌, ◌<◌, ◌+◌, ◌^◌, ℕ, List, Err, IfOk, IfSome, length};
+ghost use Rattle.std.specs.Prelude.{IfErr, ◌≡◌, ◌≤◌, ◌<◌, ◌+◌, ◌^◌, Err, IfOk, length};
+ghost use Rattle.dk_store.specs.Seen.{IfTold};
+ghost use Rattle.dk_engine.specs.Effects.{OnlyReads};
 ghost use Rattle.std.specs.Option.{ForSome};
-ghost use Rattle.dk_store.specs.Causes.{Rose};
 ghost use Rattle.dk_engine.specs.Answers.{Gives};
 ghost use Rattle.dk_listing.specs.OfEvents.{IsListingOf};
 ghost use Rattle.dk_snapshot.specs.Steps.{AreSized};
 ghost use Rattle.dk_txn.specs.Transactions.{IsSmall, ReadsBack, headed, may_come, next_after, oldest_of, outcome, outcome_after, prepared_as, reached, reached_at, reached_by, rules_keep, to_write, unless_conflict, version_of, writing_at};
+ghost use Rattle.dk_txn.specs.Refusals.{CheckRefuses};
 
 use crate::attempt::{Writing, check, within};
 use crate::start::Start;
@@ -26,7 +28,7 @@ use std::alloc::Global;
 #[derive(Drop)]
 pub(crate) enum Prepared {
     /// Its own commit stands already, as this version.
-    Standing { version: u64 },
+    AlreadyCommitted { version: u64 },
     /// This is to be written.
     Writing(Writing),
 }
@@ -36,7 +38,7 @@ impl Prepared {
         ensures { result ≡ version_of (prepared_as self.now) }
     {
         match self {
-            Prepared::Standing { version } => *version,
+            Prepared::AlreadyCommitted { version } => *version,
             Prepared::Writing(writing) => writing.version,
         }
     }
@@ -67,7 +69,7 @@ fn oldest_of(segment: &Option<Segment>) -> &str
 fn check_heads(alloc: Global, oldest: &str, from: &Start) -> Result<(), Refusal>
     ensures means { Gives (λ u. u) result (headed oldest.now from.now) }
     ensures store { result ≡ Err Refusal.Store → ⊥ }
-    ensures taken { (path : List ℕ) → result ≡ Err (Refusal.Taken path) → ⊥ }
+    ensures refusals { IfErr result CheckRefuses }
 {
     if from.version == 0 {
         return Ok(());
@@ -85,7 +87,7 @@ fn check_heads(alloc: Global, oldest: &str, from: &Start) -> Result<(), Refusal>
 fn check_conflict(conflict: Option<(u64, Kind)>) -> Result<(), Refusal>
     ensures means { Gives (λ u. u) result (unless_conflict conflict) }
     ensures store { result ≡ Err Refusal.Store → ⊥ }
-    ensures taken { (path : List ℕ) → result ≡ Err (Refusal.Taken path) → ⊥ }
+    ensures refusals { IfErr result CheckRefuses }
 {
     match conflict {
         None => Ok(()),
@@ -102,7 +104,7 @@ fn check_rules(
 ) -> Result<(), Refusal>
     ensures means { Gives (λ u. u) result (rules_keep transaction.now from.now conflict) }
     ensures store { result ≡ Err Refusal.Store → ⊥ }
-    ensures taken { (path : List ℕ) → result ≡ Err (Refusal.Taken path) → ⊥ }
+    ensures refusals { IfErr result CheckRefuses }
 {
     match check(alloc, from, &transaction.actions) {
         Err(refusal) => Err(refusal),
@@ -119,7 +121,7 @@ fn check_all(
 ) -> Result<(), Refusal>
     ensures means { Gives (λ u. u) result (may_come transaction.now from.now conflict) }
     ensures store { result ≡ Err Refusal.Store → ⊥ }
-    ensures taken { (path : List ℕ) → result ≡ Err (Refusal.Taken path) → ⊥ }
+    ensures refusals { IfErr result CheckRefuses }
 {
     match check_heads(alloc, oldest_of(&transaction.segment), from) {
         Err(refusal) => Err(refusal),
@@ -141,7 +143,7 @@ fn writing_at(
     ensures reads_back { IfOk result (ReadsBack transaction.now.id transaction.now.actions.items) }
     ensures small { from.now.version < 2 ^ 63 → IfOk result IsSmall }
     ensures store { result ≡ Err Refusal.Store → ⊥ }
-    ensures taken { (path : List ℕ) → result ≡ Err (Refusal.Taken path) → ⊥ }
+    ensures refusals { IfErr result CheckRefuses }
 {
     match check_all(alloc, transaction, from, conflict) {
         Err(refusal) => Err(refusal),
@@ -166,12 +168,9 @@ fn reach(
     state: &mut TableState,
 ) -> Result<Found, Refusal>
     requires { transaction.now.from.version + length winners.now.steps.items ≤ 2 ^ 63 }
-    ensures same { told store.new ≡ told store.old }
-    ensures clashes { clashes store.new ≡ clashes store.old }
-    ensures later { store_faults store.old ≤ store_faults store.new }
-    ensures store { result ≡ Err Refusal.Store → Rose (store_faults store.old) (store_faults store.new) }
-    ensures taken { (path : List ℕ) → result ≡ Err (Refusal.Taken path) → ⊥ }
-    ensures means { IfSome (told store.old) (λ events. AreSized events winners.now.steps.items winners.now.sizes.items
+    ensures reads { OnlyReads (seen store.old) (seen store.new) result }
+    ensures refusals { IfErr result CheckRefuses }
+    ensures means { IfTold (seen store.old) (λ events. AreSized events winners.now.steps.items winners.now.sizes.items
         → Gives (reached state.new) result (reached_by events limits transaction.now state.old winners.now.steps.items)) }
 {
     let claims = Claims::new(alloc, &transaction.reads, &transaction.actions)?;
@@ -206,12 +205,9 @@ fn prepare_after(
 ) -> Result<Prepared, Refusal>
     requires room { transaction.now.from.version + length winners.now.steps.items ≤ 2 ^ 63 }
     requires small { next < 2 ^ 63 }
-    ensures same { told store.new ≡ told store.old }
-    ensures clashes { clashes store.new ≡ clashes store.old }
-    ensures later { store_faults store.old ≤ store_faults store.new }
-    ensures store { result ≡ Err Refusal.Store → Rose (store_faults store.old) (store_faults store.new) }
-    ensures taken { (path : List ℕ) → result ≡ Err (Refusal.Taken path) → ⊥ }
-    ensures means { IfSome (told store.old) (λ events. AreSized events winners.now.steps.items winners.now.sizes.items
+    ensures reads { OnlyReads (seen store.old) (seen store.new) result }
+    ensures refusals { IfErr result CheckRefuses }
+    ensures means { IfTold (seen store.old) (λ events. AreSized events winners.now.steps.items winners.now.sizes.items
         → Gives prepared_as result (outcome_after transaction.now limits now next (reached_by events limits transaction.now transaction.now.from.before winners.now.steps.items))) }
     ensures reads_back { IfOk result (ReadsBack transaction.now.id transaction.now.actions.items) }
     ensures small { IfOk result IsSmall }
@@ -219,7 +215,7 @@ fn prepare_after(
     let mut state = transaction.from.before.copy(alloc)?;
     match reach(alloc, store, json, limits, transaction, winners, &mut state) {
         Err(refusal) => Err(refusal),
-        Ok(Found::Own { version }) => Ok(Prepared::Standing { version }),
+        Ok(Found::Own { version }) => Ok(Prepared::AlreadyCommitted { version }),
         Ok(Found::Others { conflict }) => {
             let from = Start {
                 version: next,
@@ -243,12 +239,9 @@ fn prepare_next(
 ) -> Result<Prepared, Refusal>
     requires above { transaction.now.from.version ≤ next }
     requires small { next < 2 ^ 63 }
-    ensures same { told store.new ≡ told store.old }
-    ensures clashes { clashes store.new ≡ clashes store.old }
-    ensures later { store_faults store.old ≤ store_faults store.new }
-    ensures store { result ≡ Err Refusal.Store → Rose (store_faults store.old) (store_faults store.new) }
-    ensures taken { (path : List ℕ) → result ≡ Err (Refusal.Taken path) → ⊥ }
-    ensures means { IfSome (told store.old) (λ events. IsListingOf events listing.now
+    ensures reads { OnlyReads (seen store.old) (seen store.new) result }
+    ensures refusals { IfErr result CheckRefuses }
+    ensures means { IfTold (seen store.old) (λ events. IsListingOf events listing.now
         → Gives prepared_as result (outcome_after transaction.now limits now next (reached_at events limits transaction.now next))) }
     ensures reads_back { IfOk result (ReadsBack transaction.now.id transaction.now.actions.items) }
     ensures small { IfOk result IsSmall }
@@ -283,12 +276,9 @@ fn prepare_listed(
     listing: &Catalogued,
     now: i64,
 ) -> Result<Prepared, Refusal>
-    ensures same { told store.new ≡ told store.old }
-    ensures clashes { clashes store.new ≡ clashes store.old }
-    ensures later { store_faults store.old ≤ store_faults store.new }
-    ensures store { result ≡ Err Refusal.Store → Rose (store_faults store.old) (store_faults store.new) }
-    ensures taken { (path : List ℕ) → result ≡ Err (Refusal.Taken path) → ⊥ }
-    ensures means { IfSome (told store.old) (λ events. IsListingOf events listing.now → Gives prepared_as result (outcome events limits transaction.now now)) }
+    ensures reads { OnlyReads (seen store.old) (seen store.new) result }
+    ensures refusals { IfErr result CheckRefuses }
+    ensures means { IfTold (seen store.old) (λ events. IsListingOf events listing.now → Gives prepared_as result (outcome events limits transaction.now now)) }
     ensures reads_back { IfOk result (ReadsBack transaction.now.id transaction.now.actions.items) }
     ensures small { IfOk result IsSmall }
 {
@@ -311,12 +301,9 @@ pub(crate) fn prepare(
     transaction: &Transaction,
     now: i64,
 ) -> Result<Prepared, Refusal>
-    ensures same { told store.new ≡ told store.old }
-    ensures clashes { clashes store.new ≡ clashes store.old }
-    ensures later { store_faults store.old ≤ store_faults store.new }
-    ensures store { result ≡ Err Refusal.Store → Rose (store_faults store.old) (store_faults store.new) }
-    ensures taken { (path : List ℕ) → result ≡ Err (Refusal.Taken path) → ⊥ }
-    ensures means { IfSome (told store.old) (λ events. Gives prepared_as result (outcome events limits transaction.now now)) }
+    ensures reads { OnlyReads (seen store.old) (seen store.new) result }
+    ensures refusals { IfErr result CheckRefuses }
+    ensures means { IfTold (seen store.old) (λ events. Gives prepared_as result (outcome events limits transaction.now now)) }
     ensures reads_back { IfOk result (ReadsBack transaction.now.id transaction.now.actions.items) }
     ensures small { IfOk result IsSmall }
 {

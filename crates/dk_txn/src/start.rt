@@ -1,10 +1,12 @@
 //! What a commit comes after.
-ghost use Rattle.std.specs.Prelude.{◌≡◌, ◌≤◌, ◌<◌, ◌^◌, ◌+◌, ℕ, List, Err, IfOk, IfSome};
+ghost use Rattle.std.specs.Prelude.{IfErr, ◌<◌, ◌^◌, ◌+◌, Err, IfOk};
+ghost use Rattle.dk_store.specs.Seen.{IfTold};
+ghost use Rattle.dk_engine.specs.Effects.{OnlyReads};
 ghost use Rattle.std.specs.Option.{ForSome};
-ghost use Rattle.dk_store.specs.Causes.{Rose};
 ghost use Rattle.dk_engine.specs.Answers.{Gives};
 ghost use Rattle.dk_listing.specs.OfEvents.{IsListingOf};
 ghost use Rattle.dk_txn.specs.Attempt.{start, start_of};
+ghost use Rattle.dk_txn.specs.Refusals.{BeginRefuses};
 
 use dk_engine::{JsonHandler, Limits, Refusal, Which};
 use dk_listing::Catalogued;
@@ -32,12 +34,9 @@ fn open_latest_listed(
     listing: &Catalogued,
     now: i64,
 ) -> Result<Option<Snapshot>, Refusal>
-    ensures same { told store.new ≡ told store.old }
-    ensures clashes { clashes store.new ≡ clashes store.old }
-    ensures later { store_faults store.old ≤ store_faults store.new }
-    ensures store { result ≡ Err Refusal.Store → Rose (store_faults store.old) (store_faults store.new) }
-    ensures taken { (path : List ℕ) → result ≡ Err (Refusal.Taken path) → ⊥ }
-    ensures means { IfSome (told store.old) (λ events. IsListingOf events listing.now → Gives start_of result (start events limits now)) }
+    ensures reads { OnlyReads (seen store.old) (seen store.new) result }
+    ensures refusals { IfErr result BeginRefuses }
+    ensures means { IfTold (seen store.old) (λ events. IsListingOf events listing.now → Gives start_of result (start events limits now)) }
     ensures small { IfOk result (λ snapshot. ForSome snapshot (λ s. s.version + 1 < 2 ^ 63)) }
 {
     let Some(latest) = listing.latest() else {
@@ -65,12 +64,9 @@ pub(crate) fn open_latest(
     limits: Limits,
     now: i64,
 ) -> Result<Option<Snapshot>, Refusal>
-    ensures same { told store.new ≡ told store.old }
-    ensures clashes { clashes store.new ≡ clashes store.old }
-    ensures later { store_faults store.old ≤ store_faults store.new }
-    ensures store { result ≡ Err Refusal.Store → Rose (store_faults store.old) (store_faults store.new) }
-    ensures taken { (path : List ℕ) → result ≡ Err (Refusal.Taken path) → ⊥ }
-    ensures means { IfSome (told store.old) (λ events. Gives start_of result (start events limits now)) }
+    ensures reads { OnlyReads (seen store.old) (seen store.new) result }
+    ensures refusals { IfErr result BeginRefuses }
+    ensures means { IfTold (seen store.old) (λ events. Gives start_of result (start events limits now)) }
     ensures small { IfOk result (λ snapshot. ForSome snapshot (λ s. s.version + 1 < 2 ^ 63)) }
 {
     match survey(alloc, store) {

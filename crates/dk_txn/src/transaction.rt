@@ -1,12 +1,15 @@
 //! Transactions: what was read of a table, and what is to be committed to it.
-ghost use Rattle.std.specs.Prelude.{◌≡◌, ◌≤◌, ◌<◌, ◌^◌, ◌++◌, ◌∷◌, [], ℕ, List, Ok, Err, Some, None, IfOk, IfSome, OnOk, OnErr, is_some, option_map, true};
+ghost use Rattle.std.specs.Prelude.{IfErr, ◌≡◌, ◌<◌, ◌^◌, ◌++◌, ◌∷◌, [], ℕ, List, Ok, Err, Some, None, IfOk, IfSome, OnOk, OnErr, is_some, option_map, true};
+ghost use Rattle.dk_store.specs.Seen.{IfTold};
+ghost use Rattle.dk_engine.specs.Effects.{MayPut, OnlyReads};
 ghost use Rattle.std.specs.Option.{ForSome};
-ghost use Rattle.dk_store.specs.Causes.{Rose};
 ghost use Rattle.dk_engine.specs.Answers.{Gives};
 ghost use Rattle.dk_lawful.specs.Kept.{IfBoth, KeepsLawful};
 ghost use Rattle.dk_txn.specs.Attempt.{own_commit, start, start_of};
+ghost use Rattle.dk_txn.specs.Commits.{CountsClash, RoseTwice, was_taken};
 ghost use Rattle.dk_txn.specs.TransactionHistory.{SaysOwn};
 ghost use Rattle.dk_txn.specs.Transactions.{Begins, Comes, Concludes, ConcludesHistory, IsNew, Remembers, outcome, version_meant};
+ghost use Rattle.dk_txn.specs.Refusals.{BeginRefuses, CheckRefuses, TransactionRefuses};
 
 use crate::commit::{Committed, write};
 use crate::prepared::{Prepared, prepare};
@@ -66,8 +69,9 @@ fn start_of(alloc: Global, snapshot: Option<Snapshot>) -> (Start, Option<Segment
     }
 }
 
-/// Commits, unless something was put at the commit's path since the log was listed.
-fn commit_once(
+/// One attempt to commit: it is refused by `Taken` where something was put at the commit's path since the log was listed, and no
+/// other answer comes after a clash.
+fn attempt_commit(
     alloc: Global,
     store: &mut dyn Store,
     json: &mut dyn JsonHandler,
@@ -75,25 +79,33 @@ fn commit_once(
     transaction: &Transaction,
     now: i64,
 ) -> Result<Committed, Refusal>
-    ensures commits { IfSome (told store.old) (λ events. Concludes (outcome events limits transaction.now now) events result (told store.new)) }
-    ensures alike { is_some (told store.new) ≡ is_some (told store.old) }
-    ensures later { store_faults store.old ≤ store_faults store.new }
-    ensures clashes_later { clashes store.old ≤ clashes store.new }
-    ensures store { result ≡ Err Refusal.Store → Rose (store_faults store.old) (store_faults store.new) }
-    ensures taken { (path : List ℕ) → result ≡ Err (Refusal.Taken path) → Rose (clashes store.old) (clashes store.new) }
-    ensures lawful { IfSome (told store.old) (λ events. Comes (outcome events limits transaction.now now) (own_commit transaction.now.id transaction.now.actions.items) events) → KeepsLawful (told store.old) (told store.new) }
-    ensures history { IfSome (told store.old) (λ events. Comes (outcome events limits transaction.now now) (own_commit transaction.now.id transaction.now.actions.items) events)
-        → IfBoth (told store.old) (told store.new) (λ events later. ConcludesHistory (outcome events limits transaction.now now) (own_commit transaction.now.id transaction.now.actions.items) result events later) }
+    ensures commits { IfTold (seen store.old) (λ events. Concludes (outcome events limits transaction.now now) events result (seen store.new).told) }
+    ensures puts { MayPut (seen store.old) (seen store.new) result }
+    ensures refusals { IfErr result TransactionRefuses }
+    ensures clash { CountsClash result (seen store.old).clashes (seen store.new).clashes }
+    ensures lawful { IfTold (seen store.old) (λ events. Comes (outcome events limits transaction.now now) (own_commit transaction.now.id transaction.now.actions.items) events) → KeepsLawful (seen store.old).told (seen store.new).told }
+    ensures history { IfTold (seen store.old) (λ events. Comes (outcome events limits transaction.now now) (own_commit transaction.now.id transaction.now.actions.items) events)
+        → IfBoth (seen store.old).told (seen store.new).told (λ events later. ConcludesHistory (outcome events limits transaction.now now) (own_commit transaction.now.id transaction.now.actions.items) result events later) }
 {
     match prepare(alloc, store, json, limits, transaction, now) {
         Err(refusal) => Err(refusal),
-        Ok(Prepared::Standing { version }) => Ok(Committed { version }),
+        Ok(Prepared::AlreadyCommitted { version }) => Ok(Committed { version }),
         Ok(Prepared::Writing(writing)) => write(alloc, store, &writing, now),
     }
 }
 
-/// Commits; after a clash all begins again once.
-fn commit_anew(
+/// Whether an attempt found the path taken.
+fn was_taken(answer: &Result<Committed, Refusal>) -> bool
+    ensures { result ≡ was_taken answer.now }
+{
+    match answer {
+        Err(Refusal::Taken { .. }) => true,
+        _ => false,
+    }
+}
+
+/// Commits; after a clash all begins again once, and a second clash is answered.
+fn commit_with_retry(
     alloc: Global,
     store: &mut dyn Store,
     json: &mut dyn JsonHandler,
@@ -101,26 +113,28 @@ fn commit_anew(
     transaction: &Transaction,
     now: i64,
 ) -> Result<Committed, Refusal>
-    ensures commits { IfSome (told store.old) (λ events. Concludes (outcome events limits transaction.now now) events result (told store.new)) }
-    ensures alike { is_some (told store.new) ≡ is_some (told store.old) }
-    ensures later { store_faults store.old ≤ store_faults store.new }
-    ensures clashes_later { clashes store.old ≤ clashes store.new }
-    ensures store { result ≡ Err Refusal.Store → Rose (store_faults store.old) (store_faults store.new) }
-    ensures taken { (path : List ℕ) → result ≡ Err (Refusal.Taken path) → Rose (clashes store.old) (clashes store.new) }
-    ensures lawful { IfSome (told store.old) (λ events. Comes (outcome events limits transaction.now now) (own_commit transaction.now.id transaction.now.actions.items) events) → KeepsLawful (told store.old) (told store.new) }
-    ensures history { IfSome (told store.old) (λ events. Comes (outcome events limits transaction.now now) (own_commit transaction.now.id transaction.now.actions.items) events)
-        → IfBoth (told store.old) (told store.new) (λ events later. ConcludesHistory (outcome events limits transaction.now now) (own_commit transaction.now.id transaction.now.actions.items) result events later) }
+    ensures commits { IfTold (seen store.old) (λ events. Concludes (outcome events limits transaction.now now) events result (seen store.new).told) }
+    ensures puts { MayPut (seen store.old) (seen store.new) result }
+    ensures refusals { IfErr result TransactionRefuses }
+    ensures twice { (path : List ℕ) → result ≡ Err (Refusal.Taken path) → RoseTwice (seen store.old).clashes (seen store.new).clashes }
+    ensures lawful { IfTold (seen store.old) (λ events. Comes (outcome events limits transaction.now now) (own_commit transaction.now.id transaction.now.actions.items) events) → KeepsLawful (seen store.old).told (seen store.new).told }
+    ensures history { IfTold (seen store.old) (λ events. Comes (outcome events limits transaction.now now) (own_commit transaction.now.id transaction.now.actions.items) events)
+        → IfBoth (seen store.old).told (seen store.new).told (λ events later. ConcludesHistory (outcome events limits transaction.now now) (own_commit transaction.now.id transaction.now.actions.items) result events later) }
 {
-    match commit_once(alloc, store, json, limits, transaction, now) {
-        Err(Refusal::Taken { .. }) => commit_once(alloc, store, json, limits, transaction, now),
-        answer => answer,
+    let answer = attempt_commit(alloc, store, json, limits, transaction, now);
+    if was_taken(&answer) {
+        attempt_commit(alloc, store, json, limits, transaction, now)
+    } else {
+        answer
     }
 }
 
 impl Transaction {
-    /// A transaction that has read so much of the snapshot and commits nothing yet. Without a snapshot the log was empty. `id`
-    /// is the id that its commit's first line has, in lower case with hyphens; no other transaction may have it. Takes no
-    /// memory.
+    /// A transaction that comes after this snapshot, has read so much of it and commits nothing yet (Delta Lake's PROTOCOL.md,
+    /// "ACID guarantees"). Without a snapshot the log was empty, and it comes before all.
+    ///
+    /// `id` is the id that its commit's first line has, in lower case with hyphens (there, "Commit Provenance Information"); no
+    /// other transaction may have it. Takes no memory and isn't refused.
     pub fn begin(alloc: Global, snapshot: Option<Snapshot>, reads: Reads, id: u128) -> Transaction
         requires { ForSome snapshot (λ s. s.version < 2 ^ 63) }
         ensures { Begins snapshot reads id result }
@@ -137,8 +151,11 @@ impl Transaction {
     }
 
     /// A transaction that begins at the latest version, or before all of an empty log, has read so much of it and commits nothing
-    /// yet. The log, its staged commits and the catalogue are listed once each, and what the version is read from is read
-    /// once. It is refused as [`dk_snapshot::open_at`] is, and by `Limit` of `Version` where no version can follow.
+    /// yet (Delta Lake's PROTOCOL.md, "ACID guarantees"). The log, its staged commits and the catalogue are listed once each, and
+    /// what the version is read from is read once.
+    ///
+    /// `now` is the moment of the call in milliseconds since 1970-01-01T00:00:00Z, and `id` as [`Transaction::begin`] has it. It
+    /// is refused as [`dk_snapshot::open_at`] is, and by `Limit` of `Version` where no version can follow.
     pub fn begin_latest(
         alloc: Global,
         store: &mut dyn Store,
@@ -148,12 +165,9 @@ impl Transaction {
         now: i64,
         id: u128,
     ) -> Result<Transaction, Refusal>
-        ensures same { told store.new ≡ told store.old }
-        ensures clashes { clashes store.new ≡ clashes store.old }
-        ensures later { store_faults store.old ≤ store_faults store.new }
-        ensures store { result ≡ Err Refusal.Store → Rose (store_faults store.old) (store_faults store.new) }
-        ensures taken { (path : List ℕ) → result ≡ Err (Refusal.Taken path) → ⊥ }
-        ensures means { IfSome (told store.old) (λ events. Gives (λ t. t.from) result (start events limits now)) }
+        ensures reads { OnlyReads (seen store.old) (seen store.new) result }
+        ensures refusals { IfErr result BeginRefuses }
+        ensures means { IfTold (seen store.old) (λ events. Gives (λ t. t.from) result (start events limits now)) }
         ensures new { IfOk result (IsNew reads id) }
     {
         match open_latest(alloc, store, json, limits, now) {
@@ -162,7 +176,8 @@ impl Transaction {
         }
     }
 
-    /// Lays an action behind those that are to be committed.
+    /// Lays an action behind those that are to be committed (Delta Lake's PROTOCOL.md, "Actions"). Where memory is refused, they
+    /// are as before.
     pub fn put(&mut self, action: Action) -> Result<(), AllocError>
         ensures ok { OnOk result (self.new.actions.items ≡ self.old.actions.items ++ action ∷ []) }
         ensures err { OnErr result (self.new.actions.items ≡ self.old.actions.items) }
@@ -172,8 +187,11 @@ impl Transaction {
         Ok(())
     }
 
-    /// The version that a commit would get now, or the one that it has; nothing is written. It is refused as
-    /// [`Transaction::commit`] is, and never by `Taken`.
+    /// The version that a commit would get now, or the one that its own commit has, found by its id; nothing is written.
+    ///
+    /// After an Ok of [`Transaction::commit`] it looks as before: it finds the own commit among the winners, or is refused by
+    /// `WinnersGone` where a cleanup has taken one of these. `now` and the refusals are those of [`Transaction::commit`], but for
+    /// `Taken`, which never comes.
     pub fn check(
         &self,
         alloc: Global,
@@ -182,21 +200,13 @@ impl Transaction {
         limits: Limits,
         now: i64,
     ) -> Result<u64, Refusal>
-        ensures same { told store.new ≡ told store.old }
-        ensures clashes { clashes store.new ≡ clashes store.old }
-        ensures later { store_faults store.old ≤ store_faults store.new }
-        ensures store { result ≡ Err Refusal.Store → Rose (store_faults store.old) (store_faults store.new) }
-        ensures taken { (path : List ℕ) → result ≡ Err (Refusal.Taken path) → ⊥ }
-        ensures committed { IfSome self.now.committed (λ version. result ≡ Ok version) }
-        ensures means { self.now.committed ≡ None
-            → IfSome (told store.old) (λ events. Gives (λ version. version) result (version_meant (outcome events limits self.now now))) }
+        ensures reads { OnlyReads (seen store.old) (seen store.new) result }
+        ensures refusals { IfErr result CheckRefuses }
+        ensures means { IfTold (seen store.old) (λ events. Gives (λ version. version) result (version_meant (outcome events limits self.now now))) }
     {
-        match self.committed {
-            Some(version) => Ok(version),
-            None => match prepare(alloc, store, json, limits, self, now) {
-                Err(refusal) => Err(refusal),
-                Ok(prepared) => Ok(prepared.version()),
-            },
+        match prepare(alloc, store, json, limits, self, now) {
+            Err(refusal) => Err(refusal),
+            Ok(prepared) => Ok(prepared.version()),
         }
     }
 
@@ -232,25 +242,23 @@ impl Transaction {
         ensures again { IfSome self.old.committed (λ version. result ≡ Ok (record { version = version })) }
         ensures untouched { is_some self.old.committed ≡ true → store.new ≡ store.old }
         ensures commits { self.old.committed ≡ None
-            → IfSome (told store.old) (λ events. Concludes (outcome events limits self.old now) events result (told store.new)) }
+            → IfTold (seen store.old) (λ events. Concludes (outcome events limits self.old now) events result (seen store.new).told) }
         ensures remembers { Remembers self.old result self.new }
-        ensures alike { is_some (told store.new) ≡ is_some (told store.old) }
-        ensures later { store_faults store.old ≤ store_faults store.new }
-        ensures clashes_later { clashes store.old ≤ clashes store.new }
-        ensures store { result ≡ Err Refusal.Store → Rose (store_faults store.old) (store_faults store.new) }
-        ensures taken { (path : List ℕ) → result ≡ Err (Refusal.Taken path) → Rose (clashes store.old) (clashes store.new) }
-        ensures lawful { self.old.committed ≡ None → IfSome (told store.old) (λ events. Comes (outcome events limits self.old now) (own_commit self.old.id self.old.actions.items) events)
-            → KeepsLawful (told store.old) (told store.new) }
-        ensures history { self.old.committed ≡ None → IfSome (told store.old) (λ events. Comes (outcome events limits self.old now) (own_commit self.old.id self.old.actions.items) events)
-            → IfBoth (told store.old) (told store.new) (λ events later. ConcludesHistory (outcome events limits self.old now) (own_commit self.old.id self.old.actions.items) result events later) }
+        ensures puts { MayPut (seen store.old) (seen store.new) result }
+        ensures refusals { IfErr result TransactionRefuses }
+        ensures twice { (path : List ℕ) → result ≡ Err (Refusal.Taken path) → RoseTwice (seen store.old).clashes (seen store.new).clashes }
+        ensures lawful { self.old.committed ≡ None → IfTold (seen store.old) (λ events. Comes (outcome events limits self.old now) (own_commit self.old.id self.old.actions.items) events)
+            → KeepsLawful (seen store.old).told (seen store.new).told }
+        ensures history { self.old.committed ≡ None → IfTold (seen store.old) (λ events. Comes (outcome events limits self.old now) (own_commit self.old.id self.old.actions.items) events)
+            → IfBoth (seen store.old).told (seen store.new).told (λ events later. ConcludesHistory (outcome events limits self.old now) (own_commit self.old.id self.old.actions.items) result events later) }
 
         // In the words of those who are at work on a table.
-        ensures own { IfBoth (told store.old) (told store.new) (SaysOwn self.old self.new result) }
+        ensures own { IfBoth (seen store.old).told (seen store.new).told (SaysOwn self.old self.new result) }
     {
         if let Some(version) = self.committed {
             return Ok(Committed { version });
         }
-        match commit_anew(alloc, store, json, limits, self, now) {
+        match commit_with_retry(alloc, store, json, limits, self, now) {
             Err(refusal) => Err(refusal),
             Ok(committed) => {
                 self.committed = Some(committed.version);

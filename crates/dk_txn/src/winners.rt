@@ -1,9 +1,10 @@
 //! The winners: the commits that came after a transaction's snapshot.
-ghost use Rattle.std.specs.Prelude.{◌≡◌, ◌≤◌, ◌<◌, ◌+◌, ◌^◌, ℕ, List, Err, None, IfOk, IfSome, length, option_and_then, slice_get};
+ghost use Rattle.std.specs.Prelude.{IfErr, ◌≡◌, ◌≤◌, ◌<◌, ◌+◌, ◌^◌, List, Err, None, IfOk, length, option_and_then, slice_get};
+ghost use Rattle.dk_store.specs.Seen.{IfTold};
+ghost use Rattle.dk_engine.specs.Effects.{OnlyReads};
 ghost use Rattle.std.specs.List.{list_any};
 ghost use Rattle.std.specs.Option.{option_or};
 ghost use Rattle.dk_store.specs.Told.{Told};
-ghost use Rattle.dk_store.specs.Causes.{Rose};
 ghost use Rattle.dk_model.specs.declared.action.Action.{Action};
 ghost use Rattle.dk_conflicts.specs.declared.reads.Reads.{Reads};
 ghost use Rattle.dk_conflicts.specs.Claims.{AreClaims};
@@ -14,6 +15,8 @@ ghost use Rattle.dk_listing.specs.OfEvents.{IsListingOf};
 ghost use Rattle.dk_snapshot.specs.Steps.{AreSized};
 ghost use Rattle.dk_txn.specs.Winners.{AreWinners, gone, since_steps};
 ghost use Rattle.dk_txn.specs.Transactions.{come_to, reached};
+ghost use Rattle.dk_segment.specs.Chosen.{ChooseRefuses};
+ghost use Rattle.dk_snapshot.specs.Refusals.{ReadRefuses};
 
 use dk_conflicts::Claims;
 use dk_engine::{JsonHandler, Refusal};
@@ -53,7 +56,7 @@ pub(crate) fn find_winners(
     ensures found { (events : List Told) → IsListingOf events listing.now → AreWinners events first count result }
     ensures many { IfOk result (λ winners. length winners.steps.items ≤ count) }
     ensures store { result ≡ Err Refusal.Store → ⊥ }
-    ensures taken { (path : List ℕ) → result ≡ Err (Refusal.Taken path) → ⊥ }
+    ensures refusals { IfErr result ChooseRefuses }
 {
     match find_commits(alloc, listing, first, count) {
         Err(refusal) => Err(refusal),
@@ -142,12 +145,9 @@ pub(crate) fn read_winners(
     state: &mut TableState,
 ) -> Result<Found, Refusal>
     requires { first + length winners.now.steps.items ≤ 2 ^ 63 }
-    ensures same { told store.new ≡ told store.old }
-    ensures clashes { clashes store.new ≡ clashes store.old }
-    ensures later { store_faults store.old ≤ store_faults store.new }
-    ensures store { result ≡ Err Refusal.Store → Rose (store_faults store.old) (store_faults store.new) }
-    ensures taken { (path : List ℕ) → result ≡ Err (Refusal.Taken path) → ⊥ }
-    ensures means { (reads : Reads) (own : List Action) → AreClaims claims.now reads own → IfSome (told store.old) (λ events.
+    ensures reads { OnlyReads (seen store.old) (seen store.new) result }
+    ensures refusals { IfErr result ReadRefuses }
+    ensures means { (reads : Reads) (own : List Action) → AreClaims claims.now reads own → IfTold (seen store.old) (λ events.
         AreSized events winners.now.steps.items winners.now.sizes.items
         → Gives (reached state.new) result (come_to reads own first state.old None (since_steps events limit id.now first winners.now.steps.items))) }
 {

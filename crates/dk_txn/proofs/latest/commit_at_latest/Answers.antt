@@ -2,23 +2,47 @@ use Rattle.std.proofs.Common.{ap, ◌∙◌}
 use Rattle.std.proofs.lemmas.Int.{to_z-of_z}
 use mir.Syntax.{w64}
 use Rattle.dk_txn.specs.declared.transaction.Transaction.{Transaction}
-use Rattle.dk_txn.proofs.AtLatest.{filled_items, latest_commits, latest_lawful, latest_says}
+use Rattle.dk_txn.proofs.Refusals.{begin_in_one, commit_in_one}
+use Rattle.dk_txn.specs.declared.commit.Committed.{Committed}
+use Rattle.dk_txn.proofs.Effects.{refused_puts, puts_after_reads}
+use Rattle.dk_txn.proofs.AtLatest.{filled_items, latest_commits, latest_lawful, latest_says, latest_transacts}
 use Rattle.dk_txn.proofs.latest.commit_at_latest.Goals as goal
 
-pub returns-in-Ok-filled-clause-commits : goal.returns-in-Ok-filled-clause-commits
-returns-in-Ok-filled-clause-commits g c =
-    latest_commits c.args.limits c.args.now _ c.in-Ok.begun c.in-Ok-filled.transaction c.args.actions c.args.id (to_z-of_z w64 c.args.now c.ranges.now)
-    (ap (λ (t : Transaction). t.from) c.in-Ok-filled.ensures.same) (filled_items c.in-Ok.begun c.in-Ok-filled.transaction c.args.actions c.in-Ok.ensures.new.actions c.in-Ok-filled.ensures.laid) (ap (λ (t : Transaction). t.id) c.in-Ok-filled.ensures.same ∙ c.in-Ok.ensures.new.id)
-    _ _ _ c.commit_filled.result c.in-Ok.ensures.same c.in-Ok.ensures.means c.commit_filled.ensures.commits
+pub returns-in-Ok-with_actions-clause-commits : goal.returns-in-Ok-with_actions-clause-commits
+returns-in-Ok-with_actions-clause-commits g c =
+    latest_commits c.args.limits c.args.now _ c.in-Ok.begun c.in-Ok-with_actions.transaction c.args.actions c.args.id (to_z-of_z w64 c.args.now c.ranges.now)
+    (ap (λ (t : Transaction). t.from) c.in-Ok-with_actions.ensures.same) (filled_items c.in-Ok.begun c.in-Ok-with_actions.transaction c.args.actions c.in-Ok.ensures.new.actions c.in-Ok-with_actions.ensures.laid) (ap (λ (t : Transaction). t.id) c.in-Ok-with_actions.ensures.same ∙ c.in-Ok.ensures.new.id)
+    _ _ _ c.commit_fresh.result c.in-Ok.ensures.reads.same c.in-Ok.ensures.means c.commit_fresh.ensures.commits
 
-pub returns-in-Ok-filled-clause-lawful : goal.returns-in-Ok-filled-clause-lawful
-returns-in-Ok-filled-clause-lawful g c =
-    latest_lawful c.args.limits c.args.now _ c.in-Ok.begun c.in-Ok-filled.transaction c.args.actions c.args.id (to_z-of_z w64 c.args.now c.ranges.now)
-    (ap (λ (t : Transaction). t.from) c.in-Ok-filled.ensures.same) (filled_items c.in-Ok.begun c.in-Ok-filled.transaction c.args.actions c.in-Ok.ensures.new.actions c.in-Ok-filled.ensures.laid) (ap (λ (t : Transaction). t.id) c.in-Ok-filled.ensures.same ∙ c.in-Ok.ensures.new.id)
-    _ _ _ c.in-Ok.ensures.same c.in-Ok.ensures.means c.commit_filled.ensures.lawful
+pub returns-in-Ok-with_actions-clause-lawful : goal.returns-in-Ok-with_actions-clause-lawful
+returns-in-Ok-with_actions-clause-lawful g c =
+    latest_lawful c.args.limits c.args.now _ c.in-Ok.begun c.in-Ok-with_actions.transaction c.args.actions c.args.id (to_z-of_z w64 c.args.now c.ranges.now)
+    (ap (λ (t : Transaction). t.from) c.in-Ok-with_actions.ensures.same) (filled_items c.in-Ok.begun c.in-Ok-with_actions.transaction c.args.actions c.in-Ok.ensures.new.actions c.in-Ok-with_actions.ensures.laid) (ap (λ (t : Transaction). t.id) c.in-Ok-with_actions.ensures.same ∙ c.in-Ok.ensures.new.id)
+    _ _ _ c.in-Ok.ensures.reads.same c.in-Ok.ensures.means c.commit_fresh.ensures.lawful
 
-pub returns-in-Ok-filled-clause-history : goal.returns-in-Ok-filled-clause-history
-returns-in-Ok-filled-clause-history g c =
-    latest_says c.args.limits c.args.now _ c.in-Ok.begun c.in-Ok-filled.transaction c.args.actions c.args.id (to_z-of_z w64 c.args.now c.ranges.now)
-    (ap (λ (t : Transaction). t.from) c.in-Ok-filled.ensures.same) (filled_items c.in-Ok.begun c.in-Ok-filled.transaction c.args.actions c.in-Ok.ensures.new.actions c.in-Ok-filled.ensures.laid) (ap (λ (t : Transaction). t.id) c.in-Ok-filled.ensures.same ∙ c.in-Ok.ensures.new.id)
-    _ _ _ c.commit_filled.result c.in-Ok.ensures.same c.in-Ok.ensures.means c.commit_filled.ensures.history
+pub returns-in-Ok-with_actions-clause-history : goal.returns-in-Ok-with_actions-clause-history
+returns-in-Ok-with_actions-clause-history g c =
+    latest_says c.args.limits c.args.now _ c.in-Ok.begun c.in-Ok-with_actions.transaction c.args.actions c.args.id (to_z-of_z w64 c.args.now c.ranges.now)
+    (ap (λ (t : Transaction). t.from) c.in-Ok-with_actions.ensures.same) (filled_items c.in-Ok.begun c.in-Ok-with_actions.transaction c.args.actions c.in-Ok.ensures.new.actions c.in-Ok-with_actions.ensures.laid) (ap (λ (t : Transaction). t.id) c.in-Ok-with_actions.ensures.same ∙ c.in-Ok.ensures.new.id)
+    _ _ _ c.commit_fresh.result c.in-Ok.ensures.reads.same c.in-Ok.ensures.means c.commit_fresh.ensures.history
+
+pub returns-in-Ok-with_actions-clause-transacts : goal.returns-in-Ok-with_actions-clause-transacts
+returns-in-Ok-with_actions-clause-transacts g c =
+    latest_transacts c.args.limits c.args.now _ c.in-Ok.begun c.in-Ok-with_actions.transaction c.args.actions c.args.id (to_z-of_z w64 c.args.now c.ranges.now)
+    (ap (λ (t : Transaction). t.from) c.in-Ok-with_actions.ensures.same) (filled_items c.in-Ok.begun c.in-Ok-with_actions.transaction c.args.actions c.in-Ok.ensures.new.actions c.in-Ok-with_actions.ensures.laid)
+    (ap (λ (t : Transaction). t.id) c.in-Ok-with_actions.ensures.same ∙ c.in-Ok.ensures.new.id)
+    c.args.reads _ _ _ c.commit_fresh.result (ap (λ (t : Transaction). t.reads) c.in-Ok-with_actions.ensures.same ∙ c.in-Ok.ensures.new.reads)
+    (ap (λ (t : Transaction). t.committed) c.in-Ok-with_actions.ensures.same ∙ c.in-Ok.ensures.new.committed)
+    c.in-Ok.ensures.reads.same c.in-Ok.ensures.means c.commit_fresh.ensures.concludes
+
+pub returns-in-Err-clause-refusals : goal.returns-in-Err-clause-refusals
+returns-in-Err-clause-refusals g c = begin_in_one c.in-Err.refusal c.in-Err.ensures.refusals
+
+pub returns-in-Ok-with_actions-clause-refusals : goal.returns-in-Ok-with_actions-clause-refusals
+returns-in-Ok-with_actions-clause-refusals g c = commit_in_one c.commit_fresh.result c.commit_fresh.ensures.refusals
+
+pub returns-in-Err-clause-puts : goal.returns-in-Err-clause-puts
+returns-in-Err-clause-puts g c = refused_puts {X = Transaction} {Y = Committed} _ _ c.in-Err.refusal c.in-Err.ensures.reads
+
+pub returns-in-Ok-with_actions-clause-puts : goal.returns-in-Ok-with_actions-clause-puts
+returns-in-Ok-with_actions-clause-puts g c = puts_after_reads {X = Transaction} {Y = Committed} _ _ _ _ c.commit_fresh.result c.in-Ok.ensures.reads c.commit_fresh.ensures.puts

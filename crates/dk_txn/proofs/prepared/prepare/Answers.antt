@@ -2,6 +2,7 @@ use Rattle.std.proofs.lemmas.Int.{to_z-of_z}
 use mir.Syntax.{w64}
 use Rattle.dk_txn.specs.declared.prepared.Prepared.{Prepared}
 use Rattle.dk_txn.specs.Transactions.{prepared_as}
+use Rattle.dk_txn.proofs.Refusals.{survey_checks}
 use Rattle.dk_txn.proofs.Preparing.{survey_refused, survey_found}
 use Rattle.dk_txn.proofs.prepared.prepare.Goals as goal
 
@@ -11,4 +12,7 @@ returns-in-Err-clause-means g c = survey_refused _ c.args.limits c.args.transact
 pub returns-in-Ok-clause-means : goal.returns-in-Ok-clause-means
 returns-in-Ok-clause-means g c =
     survey_found {X = Prepared} prepared_as _ _ c.args.limits c.args.transaction.now c.args.now _ c.in-Ok.listing c.prepare_listed.result (to_z-of_z w64 c.args.now c.ranges.now)
-    c.in-Ok.ensures.same c.in-Ok.ensures.found c.prepare_listed.ensures.means
+    c.in-Ok.ensures.reads.same c.in-Ok.ensures.found c.prepare_listed.ensures.means
+
+pub returns-in-Err-clause-refusals : goal.returns-in-Err-clause-refusals
+returns-in-Err-clause-refusals g c = survey_checks c.in-Err.refusal c.in-Err.ensures.refusals

@@ -3,6 +3,7 @@ use Rattle.std.proofs.lemmas.Int.{to_z-of_z}
 use mir.Syntax.{w64}
 use Rattle.dk_txn.specs.declared.prepared.Prepared.{Prepared}
 use Rattle.dk_txn.specs.Transactions.{prepared_as}
+use Rattle.dk_txn.proofs.Refusals.{choose_is_gone}
 use Rattle.dk_txn.proofs.Preparing.{none_next, winners_next, winners_gone}
 use Rattle.dk_txn.proofs.prepared.prepare_next.Goals as goal
 
@@ -17,3 +18,6 @@ pub returns-in-Ok-clause-means : goal.returns-in-Ok-clause-means
 returns-in-Ok-clause-means g c =
     winners_next {X = Prepared} prepared_as _ c.args.listing.now c.args.limits c.args.transaction.now c.args.now _ c.args.next c.in-Ok.winners c.prepare_after.result (to_z-of_z w64 c.args.now c.ranges.now)
     c.in-Ok.ensures.found c.prepare_after.ensures.means
+
+pub returns-in-Err-clause-refusals : goal.returns-in-Err-clause-refusals
+returns-in-Err-clause-refusals g c = choose_is_gone c.in-Err.refusal c.gone.result c.gone.ensures c.in-Err.ensures.refusals

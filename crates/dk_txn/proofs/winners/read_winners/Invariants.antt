@@ -1,4 +1,5 @@
-use Rattle.std.proofs.Common.{◌≡◌, ◌≤◌, length}
+use Rattle.std.proofs.Common.{◌≤◌, length}
+use Rattle.dk_store.specs.Seen.{Stays}
 use Rattle.dk_txn.proofs.ReadWinners.{LeftToRead}
 use Rattle.dk_txn.proofs.winners.read_winners.Given as goal
 
@@ -7,8 +8,6 @@ abbrev pub invariant-loop-place : goal.invariant-loop-place
 invariant-loop-place g l =
     let now = goal.Store-dyn g l.store.now in
     let before = goal.Store-dyn g l.initial.store.now in
-    (now.told l.store.now.1 ≡ before.told l.initial.store.now.1)
-    × (before.store_faults l.initial.store.now.1 ≤ now.store_faults l.store.now.1)
-    × (now.clashes l.store.now.1 ≡ before.clashes l.initial.store.now.1)
+    Stays (before.seen l.initial.store.now.1) (now.seen l.store.now.1)
     × (l.place ≤ length l.winners.steps.items)
-    × LeftToRead (before.told l.initial.store.now.1) l.limit l.id l.claims l.first l.winners.steps.items l.winners.sizes.items l.initial.state l.place l.state l.conflict
+    × LeftToRead (before.seen l.initial.store.now.1).told l.limit l.id l.claims l.first l.winners.steps.items l.winners.sizes.items l.initial.state l.place l.state l.conflict

@@ -1,7 +1,0 @@
-use Rattle.std.proofs.Common.{◌≡◌, ◌+◌, ◌≤◌, drop, length}
-use Rattle.std.specs.List.{filter_map}
-use Rattle.dk_lawful.specs.Rules.{metadata_in}
-use Rattle.dk_txn.proofs.rules.count_metadata.Given as goal
-
-abbrev pub invariant-loop-action : goal.invariant-loop-action
-invariant-loop-action l = (l.count + length (filter_map metadata_in (drop l.action-index l.actions)) ≡ length (filter_map metadata_in l.actions)) × (l.count ≤ l.action-index)

@@ -1,7 +1,0 @@
-use Rattle.std.proofs.Common.{◌≡◌, drop}
-use Rattle.std.specs.List.{filter_map, list_all}
-use Rattle.dk_lawful.specs.Rules.{protocol_in, is_protocol_kept}
-use Rattle.dk_txn.proofs.rules.keeps_protocol.Given as goal
-
-abbrev pub invariant-loop-action : goal.invariant-loop-action
-invariant-loop-action l = list_all (is_protocol_kept l.before.protocol) (filter_map protocol_in (drop l.action-index l.actions)) ≡ list_all (is_protocol_kept l.before.protocol) (filter_map protocol_in l.actions)

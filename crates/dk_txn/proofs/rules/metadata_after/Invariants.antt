@@ -1,6 +1,0 @@
-use Rattle.std.proofs.Common.{◌≡◌, drop, option_map}
-use Rattle.dk_txn.specs.Walks.{last_metadata}
-use Rattle.dk_txn.proofs.rules.metadata_after.Given as goal
-
-abbrev pub invariant-loop-action : goal.invariant-loop-action
-invariant-loop-action l = last_metadata (option_map (λ x. x.now) l.after) (drop l.action-index l.actions) ≡ last_metadata l.before.metadata l.actions
