@@ -1,9 +1,6 @@
 //! A store over a folder.
-ghost use Rattle.std.specs.Prelude.{◌≡◌, ◌≤◌, ◌<◌, ◌+◌, ◌-◌, ◌^◌, ℕ, All, IfOk, min, None, Ok, Err};
+ghost use Rattle.std.specs.Prelude.{◌≡◌, ◌≤◌, ◌<◌, ◌+◌, ◌-◌, ◌^◌, ℕ, All, IfOk, min, Ok, Err};
 ghost use Rattle.dk_store.specs.Causes.{Rose};
-
-#[cfg(test)]
-mod tests;
 
 use crate::catalogue::{forget, ratified, ratify};
 use crate::disk::{Disk, list, read};
@@ -15,7 +12,7 @@ use std::io::ErrorKind;
 use std::{fs, io};
 
 // What the store's lock is for.
-#[derive(Clone, Copy, Debug, PartialEq, Eq)]
+#[derive(Clone, Copy)]
 enum Access {
     Write,
     Read,
@@ -86,7 +83,7 @@ impl<R: Disk> DirStore<R> {
         ensures faults { self.new.faults ≡ self.old.faults }
         ensures clashes { self.new.clashes ≡ self.old.clashes }
     {
-        if self.access == Access::Read {
+        if let Access::Read = self.access {
             return Err(io::Error::from(ErrorKind::PermissionDenied));
         }
         self.hold()
@@ -214,11 +211,9 @@ fn locked<R: Disk>(rt: &R, folder: &str, access: Access) -> io::Result<File> {
 }
 
 impl<R: Disk> Store for DirStore<R> {
-    ghost told = { λ _. None };
+    ghost use Rattle.dk_dir.specs.Counts.{dir_seen};
 
-    ghost store_faults = { λ s. s.faults };
-
-    ghost clashes = { λ s. s.clashes };
+    ghost seen = { λ s. dir_seen s };
 
     fn list(&mut self, folder: &str, from: &str) -> Result<Vec<Entry>, StoreError> {
         let answer = self.try_list(folder, from);
@@ -232,7 +227,7 @@ impl<R: Disk> Store for DirStore<R> {
 
     fn put_new(&mut self, path: &str, bytes: &[u8], now: i64) -> Result<Put, StoreError> {
         let answer = self.try_put_new(path, bytes, now);
-        if answer == Ok(Put::Exists) {
+        if let Ok(Put::Exists) = &answer {
             self.clash();
         }
         self.counted(answer)

@@ -18,6 +18,11 @@ pub(crate) fn is_object_name(name: &str) -> bool {
     is_name(name) && !name.starts_with(SCRATCH)
 }
 
+// Whether a name looks like a part of a log: a commit, a checkpoint or what belongs to one.
+pub(crate) fn is_log_name(name: &str) -> bool {
+    name.ends_with(".json") || name.ends_with(".parquet")
+}
+
 // Whether an object can lie at this path: it stays in the folder, has one spelling, and is no part of the catalogue.
 pub(crate) fn is_object_path(path: &str) -> bool {
     let in_catalogue = match path.strip_prefix(CATALOGUE) {

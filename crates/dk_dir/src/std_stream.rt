@@ -1,5 +1,5 @@
 //! The standard input as a source, and the standard output as a sink.
-ghost use Rattle.std.specs.Prelude.{◌≡◌, ◌≤◌, None, IfOk, length};
+ghost use Rattle.std.specs.Prelude.{◌≡◌, ◌≤◌, IfOk, length};
 
 use dk_store::{Failed, Sink, Source};
 use std::io;
@@ -28,9 +28,9 @@ impl<R: Input> StdSource<R> {
 }
 
 impl<R: Input> Source for StdSource<R> {
-    ghost left = { λ _. None };
+    ghost use Rattle.dk_dir.specs.Counts.{std_source_seen};
 
-    ghost source_faults = { λ s. s.faults };
+    ghost source_seen = { λ s. std_source_seen s };
 
     fn take(&mut self, buf: &mut [u8]) -> Result<usize, Failed> {
         if let Ok(count) = read_some(&mut self.reader, buf) {
@@ -75,9 +75,9 @@ impl<R: Print + Drop> StdSink<R> {
 }
 
 impl<R: Print + Drop> Sink for StdSink<R> {
-    ghost taken = { λ _. None };
+    ghost use Rattle.dk_dir.specs.Counts.{std_sink_seen};
 
-    ghost sink_faults = { λ s. s.faults };
+    ghost sink_seen = { λ s. std_sink_seen s };
 
     fn give(&mut self, piece: &[u8]) -> Result<usize, Failed> {
         match write_some(&self.rt, piece) {

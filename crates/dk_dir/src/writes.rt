@@ -1,6 +1,6 @@
 //! How a file gets its name: written beside it, synced, and then linked or renamed.
 
-use crate::disk::{Disk, is_absence};
+use crate::disk::{Disk, is_absence, object_at};
 use crate::paths::{SCRATCH, join, parent};
 use dk_store::{Put, StoreError};
 use std::fs::File;
@@ -117,12 +117,23 @@ pub(crate) fn make<R: Disk>(
             Ok(()) => Ok(Put::Made),
             Err(_) => Err(StoreError::Failed),
         },
-        Err(error) if error.kind() == ErrorKind::AlreadyExists => Ok(Put::Exists),
+        Err(error) if error.kind() == ErrorKind::AlreadyExists => exists(rt, ready.target.as_str()),
         Err(_) => Err(StoreError::Failed),
     }
 }
 
-// Makes the file, in place of another that has the name.
+// The answer where a name is taken: `Exists` where it is that of an object that can be read.
+fn exists<R: Disk>(rt: &R, path: &str) -> Result<Put, StoreError> {
+    match object_at(rt, path).map_err(store_error)? {
+        Some(_) => match File::open(rt, path) {
+            Ok(_) => Ok(Put::Exists),
+            Err(error) => Err(store_error(error)),
+        },
+        None => Err(StoreError::Failed),
+    }
+}
+
+// Makes the file, in place of another that has the name. What stands there and is no file stays.
 pub(crate) fn replace<R: Disk>(
     rt: &R,
     root: &str,
@@ -130,6 +141,8 @@ pub(crate) fn replace<R: Disk>(
     mark: i64,
     bytes: &[u8],
 ) -> Result<(), StoreError> {
+    let target = join(rt.alloc(), root, path)?;
+    object_at(rt, target.as_str()).map_err(store_error)?;
     let ready = make_ready(rt, root, path, mark, bytes).map_err(store_error)?;
     if fs::rename(rt, ready.scratch.as_str(), ready.target.as_str()).is_err() {
         let _ = fs::remove_file(rt, ready.scratch.as_str());
@@ -142,20 +155,13 @@ pub(crate) fn replace<R: Disk>(
 pub(crate) fn remove<R: Disk>(rt: &R, root: &str, path: &str) -> Result<(), StoreError> {
     let folder = join(rt.alloc(), root, parent(path))?;
     let target = join(rt.alloc(), root, path)?;
-    if !is_there(rt, target.as_str()).map_err(store_error)? {
+    let object = object_at(rt, target.as_str()).map_err(store_error)?;
+    if object.is_none() {
         return Ok(());
     }
     match fs::remove_file(rt, target.as_str()) {
         Ok(()) => sync_folder(rt, folder.as_str()).map_err(|_| StoreError::Failed),
         Err(error) if is_absence(&error) => Ok(()),
         Err(_) => Err(StoreError::Failed),
-    }
-}
-
-fn is_there<R: Disk>(rt: &R, path: &str) -> io::Result<bool> {
-    match fs::metadata(rt, path) {
-        Ok(metadata) => Ok(metadata.is_file()),
-        Err(error) if is_absence(&error) => Ok(false),
-        Err(error) => Err(error),
     }
 }

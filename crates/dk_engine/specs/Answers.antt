@@ -21,3 +21,11 @@ Refuses refusal meant = meant ≡ Err refusal
 abbrev pub Gives : {X Y : Type 0} → (X → Y) → Result X Refusal → Result Y Refusal → Type 0
 Gives view (Ok x) meant = meant ≡ Ok (view x)
 Gives view (Err refusal) meant = Refuses refusal meant
+
+-- the same where a meaning is a relation, which says of each value and each refusal whether it is meant
+abbrev pub GivesBy : {X Y : Type 0} → (X → Y) → Result X Refusal → (Result Y Refusal → Type 0) → Type 0
+GivesBy view (Ok x) means = means (Ok (view x))
+GivesBy view (Err refusals.Store) means = Unit {0}
+GivesBy view (Err refusals.OutOfMemory) means = Unit {0}
+GivesBy view (Err (refusals.Taken path)) means = ⊥
+GivesBy view (Err refusal) means = means (Err refusal)

@@ -1,3 +1,4 @@
 pub mod Answers
+pub mod Effects
 pub mod Usual
 pub mod Held

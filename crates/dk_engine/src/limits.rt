@@ -5,6 +5,8 @@
 pub struct Limits {
     /// The bytes of each object.
     pub object: u64,
+    /// The weight of the rows of each Parquet object that is written.
+    pub rows: u64,
     /// The bytes of the input.
     pub input: u64,
     /// The bytes of a line of the input, without its newline.
@@ -36,12 +38,14 @@ impl Limits {
     ghost use Rattle.std.specs.Prelude.{◌≡◌};
     ghost use Rattle.dk_engine.specs.Usual.{usual};
 
-    /// The limits of the program: 256 MiB an object, 256 MiB of input, 16 MiB a line, a million lines. Takes no memory.
+    /// The limits of the program: 256 MiB an object, rows of a weight of 2 to the 30, 256 MiB of input, 16 MiB a line, a
+    /// million lines. Takes no memory.
     pub fn usual() -> Limits
         ensures { result ≡ usual }
     {
         Limits {
             object: 268_435_456,
+            rows: 1_073_741_824,
             input: 268_435_456,
             line: 16_777_216,
             lines: 1_000_000,

@@ -1,5 +1,6 @@
 pub mod Folders
 pub mod Giving
+pub mod Growing
 pub mod Lookups
 pub mod Maps
 pub mod Named

@@ -3,6 +3,7 @@ pub mod Journal
 pub mod Listing
 pub mod Memory
 pub mod Objects
+pub mod Seen
 pub mod Settled
 pub mod Standings
 pub mod Stream

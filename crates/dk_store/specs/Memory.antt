@@ -8,6 +8,7 @@ use Rattle.dk_store.specs.declared.memory.MemStore.{MemStore}
 use Rattle.dk_store.specs.Told.{Told, Stored, Made, Over, Deleted, Ratified, Forgotten}
 use Rattle.dk_store.specs.Objects.{path_cmp}
 use Rattle.dk_store.specs.Journal.{journal_events}
+use Rattle.dk_store.specs.Seen.{Seen}
 
 -- an object without where it lies in memory
 abbrev pub stored : Object → Stored
@@ -56,3 +57,7 @@ mem_faults store = store.faults
 -- how often a name or a version was taken already
 abbrev pub mem_clashes : MemStore → ℕ
 mem_clashes store = store.clashes
+
+-- what it shows of itself: it tells all
+abbrev pub mem_seen : MemStore → Seen
+mem_seen store = record { told = Some (mem_events store); faults = mem_faults store; clashes = mem_clashes store }

@@ -3,10 +3,11 @@ ghost use Rattle.std.specs.Prelude.{◌≡◌};
 ghost use Rattle.dk_store.specs.declared.event.StoreError.TheVariants.{OutOfMemory};
 
 use std::alloc::{AllocError, AllocFailed};
+use thiserror::Error;
 
 /// One write that a store has taken. A path is relative to the table's folder, and a stamp is in milliseconds since
 /// 1970-01-01T00:00:00Z.
-#[derive(Debug, PartialEq, Eq, Drop)]
+#[derive(Drop)]
 pub enum Event {
     /// An object was made where none was.
     Made {
@@ -36,7 +37,7 @@ pub enum Event {
 }
 
 /// An object as a listing shows it.
-#[derive(Debug, PartialEq, Eq, Drop)]
+#[derive(Drop)]
 pub struct Entry {
     /// The name in the folder that was listed.
     pub name: String,
@@ -47,7 +48,7 @@ pub struct Entry {
 }
 
 /// A ratification that stands.
-#[derive(Debug, PartialEq, Eq, Drop)]
+#[derive(Drop)]
 pub struct Ratification {
     pub version: u64,
     /// The name of the staged object.
@@ -55,7 +56,7 @@ pub struct Ratification {
 }
 
 /// What a put-if-absent did.
-#[derive(Clone, Copy, Debug, PartialEq, Eq)]
+#[derive(Clone, Copy)]
 pub enum Put {
     /// It made the object.
     Made,
@@ -64,7 +65,7 @@ pub enum Put {
 }
 
 /// What a ratification did.
-#[derive(Clone, Copy, Debug, PartialEq, Eq)]
+#[derive(Clone, Copy)]
 pub enum Ratify {
     /// The version was ratified.
     Made,
@@ -73,11 +74,13 @@ pub enum Ratify {
 }
 
 /// Why a call of a store has no answer.
-#[derive(Clone, Copy, Debug, PartialEq, Eq)]
+#[derive(Clone, Copy, Debug, Error)]
 pub enum StoreError {
     /// The store failed, and counted that.
+    #[error("the store failed")]
     Failed,
     /// There was no memory for the call.
+    #[error("out of memory")]
     OutOfMemory,
 }
 

@@ -7,7 +7,6 @@
 #![tactic(auto)]
 
 mod event;
-mod input;
 mod journal;
 mod listing;
 mod mem_sink;
@@ -20,7 +19,6 @@ mod store;
 mod stream;
 
 pub use event::{Entry, Event, Put, Ratification, Ratify, StoreError};
-pub use input::{InputFault, take_all};
 pub use mem_sink::MemSink;
 pub use mem_source::MemSource;
 pub use memory::MemStore;

@@ -1,5 +1,6 @@
 //! A sink into memory, which tells its bytes, and fails where that was planned.
-ghost use Rattle.std.specs.Prelude.{◌≡◌, Some};
+ghost use Rattle.std.specs.Prelude.{◌≡◌};
+ghost use Rattle.dk_store.specs.Streams.{mem_sink_seen};
 
 use crate::stream::{Failed, Sink};
 use std::alloc::Global;
@@ -40,9 +41,7 @@ impl MemSink {
 }
 
 impl Sink for MemSink {
-    ghost taken = { λ s. Some s.taken.items };
-
-    ghost sink_faults = { λ s. s.faults };
+    ghost sink_seen = { λ s. mem_sink_seen s };
 
     fn give(&mut self, piece: &[u8]) -> Result<usize, Failed> {
         self.calls = self.calls.saturating_add(1);

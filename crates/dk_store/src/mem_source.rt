@@ -1,5 +1,5 @@
 //! A source over bytes in memory, which tells them, and fails where that was planned.
-ghost use Rattle.std.specs.Prelude.{◌≡◌, ◌≤◌, Some, length, drop};
+ghost use Rattle.std.specs.Prelude.{◌≡◌, ◌≤◌, length};
 
 use crate::stream::{Failed, Source};
 
@@ -35,9 +35,9 @@ impl MemSource {
 }
 
 impl Source for MemSource {
-    ghost left = { λ s. Some (drop s.at s.bytes.items) };
+    ghost use Rattle.dk_store.specs.Streams.{mem_source_seen};
 
-    ghost source_faults = { λ s. s.faults };
+    ghost source_seen = { λ s. mem_source_seen s };
 
     fn take(&mut self, buf: &mut [u8]) -> Result<usize, Failed> {
         self.calls = self.calls.saturating_add(1);

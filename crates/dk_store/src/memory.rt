@@ -1,12 +1,7 @@
 //! A store in memory, which keeps all its events and tells them, and fails where that was planned.
 ghost use Rattle.std.specs.Prelude.{◌≡◌, ◌≤◌, ◌+◌, ◌-◌, ◌^◌, min, take, Some};
 ghost use Rattle.dk_store.specs.Causes.{Rose};
-ghost use Rattle.dk_store.specs.Memory.{mem_events, mem_faults, mem_clashes};
-
-#[cfg(test)]
-mod reading;
-#[cfg(test)]
-mod writing;
+ghost use Rattle.dk_store.specs.Memory.{mem_events, mem_faults, mem_clashes, mem_seen};
 
 use crate::event::{Entry, Event, Put, Ratification, Ratify, StoreError};
 use crate::journal::Journal;
@@ -127,11 +122,7 @@ impl MemStore {
 }
 
 impl Store for MemStore {
-    ghost told = { λ s. Some (mem_events s) };
-
-    ghost store_faults = { λ s. mem_faults s };
-
-    ghost clashes = { λ s. mem_clashes s };
+    ghost seen = { λ s. mem_seen s };
 
     fn list(&mut self, folder: &str, from: &str) -> Result<Vec<Entry>, StoreError> {
         if self.plan.next(Call::List).is_some() {
@@ -151,7 +142,7 @@ impl Store for MemStore {
         match self.plan.next(Call::PutNew) {
             None => {
                 let put = self.journal.make(path, bytes, now)?;
-                if put == Put::Exists {
+                if let Put::Exists = put {
                     self.clash();
                 }
                 Ok(put)
@@ -192,7 +183,7 @@ impl Store for MemStore {
         match self.plan.next(Call::Ratify) {
             None => {
                 let answer = self.journal.ratify(version, name)?;
-                if answer != Ratify::Made {
+                if let Ratify::Lost { .. } = answer {
                     self.clash();
                 }
                 Ok(answer)

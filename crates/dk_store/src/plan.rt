@@ -1,7 +1,7 @@
 //! Which calls of a store in memory are to fail, and how.
 
 /// A call of a store. Each counts its own calls, and `Any` counts all.
-#[derive(Clone, Copy, Debug, PartialEq, Eq)]
+#[derive(Clone, Copy, PartialEq, Eq)]
 pub enum Call {
     Any,
     List,
@@ -15,7 +15,7 @@ pub enum Call {
 }
 
 /// How a call fails.
-#[derive(Clone, Copy, Debug, PartialEq, Eq)]
+#[derive(Clone, Copy)]
 pub enum How {
     /// With no event.
     Before,
@@ -30,7 +30,7 @@ pub enum How {
 }
 
 /// That the nth call of a kind, counted from 1, is to fail.
-#[derive(Clone, Copy, Debug, PartialEq, Eq)]
+#[derive(Clone, Copy)]
 pub struct Fault {
     pub call: Call,
     pub nth: u64,
@@ -80,7 +80,7 @@ impl Plan {
                 fault.nth = fault.nth.saturating_sub(1);
             }
         }
-        if due == Some(How::Stop) {
+        if let Some(How::Stop) = due {
             self.is_stopped = true;
         }
         if self.is_stopped {

@@ -1,19 +1,18 @@
 //! A source of bytes and a sink for them, each known by its bytes where it tells them.
-ghost use Rattle.std.specs.Prelude.{◌≡◌, ◌≤◌, List, ℕ, Option, length, take, IfOk, OnOk, OnErr, ◌⊎◌, IfSome, []};
-ghost use Rattle.dk_store.specs.Causes.{Rose};
-ghost use Rattle.dk_store.specs.Stream.{Takes, Gives, more};
+ghost use Rattle.std.specs.Prelude.{◌≡◌, ◌≤◌, length, IfOk};
+ghost use Rattle.dk_store.specs.Stream.{SourceSeen, SinkSeen, TakesFrom, GivesTo, GivesWhole};
+
+use thiserror::Error;
 
 /// That a source or a sink failed, and counted that.
-#[derive(Clone, Copy, Debug, PartialEq, Eq)]
+#[derive(Clone, Copy, Debug, Error)]
+#[error("the stream failed")]
 pub struct Failed;
 
 /// A source of bytes.
 pub trait Source {
-    /// The bytes that are left, where the source tells them.
-    ghost left: { Self → Option (List ℕ) };
-
-    /// How often the source has failed. It never falls.
-    ghost source_faults: { Self → ℕ };
+    /// The bytes that are left, where the source tells them, and its count of faults, which never falls.
+    ghost source_seen: { Self → SourceSeen };
 
     /// Fills the first n bytes of the buffer with the first n of the bytes left, which are then left no more, and answers n.
     ///
@@ -22,19 +21,13 @@ pub trait Source {
     fn take(&mut self, buf: &mut [u8]) -> Result<usize, Failed>
         ensures most { IfOk result (λ n. n ≤ length buf.old) }
         ensures len { length buf.new ≡ length buf.old }
-        ensures bytes { Takes result (left self.old) (left self.new) buf.new }
-        ensures end { IfOk result (λ n. n ≡ 0 → length buf.old ≡ 0 ⊎ IfSome (left self.old) (λ bytes. bytes ≡ [])) }
-        ensures later { source_faults self.old ≤ source_faults self.new }
-        ensures failed { OnErr result (Rose (source_faults self.old) (source_faults self.new)) };
+        ensures takes { TakesFrom (source_seen self.old) (source_seen self.new) result buf.old buf.new };
 }
 
 /// A sink for bytes.
 pub trait Sink {
-    /// The bytes that were taken, where the sink tells them.
-    ghost taken: { Self → Option (List ℕ) };
-
-    /// How often the sink has failed. It never falls.
-    ghost sink_faults: { Self → ℕ };
+    /// The bytes that were taken, where the sink tells them, and its count of faults, which never falls.
+    ghost sink_seen: { Self → SinkSeen };
 
     /// Adds the first n bytes of the piece to the bytes taken, and answers n.
     ///
@@ -42,20 +35,14 @@ pub trait Sink {
     /// count rose, some of the first bytes of the piece may have been taken.
     fn give(&mut self, piece: &[u8]) -> Result<usize, Failed>
         ensures most { IfOk result (λ n. n ≤ length piece.now) }
-        ensures bytes { Gives result (taken self.old) (taken self.new) piece.now }
-        ensures nothing { IfOk result (λ n. n ≡ 0 → length piece.now ≡ 0 ⊎ Rose (sink_faults self.old) (sink_faults self.new)) }
-        ensures later { sink_faults self.old ≤ sink_faults self.new }
-        ensures failed { OnErr result (Rose (sink_faults self.old) (sink_faults self.new)) };
+        ensures gives { GivesTo (sink_seen self.old) (sink_seen self.new) result piece.now };
 }
 
 /// Gives a whole text to a sink: each turn gives at least one byte, or the sink has failed.
 ///
 /// `Failed` comes only where the sink's count rose; the sink then took a beginning of the text.
 pub fn give_all<O: Sink>(out: &mut O, text: &[u8]) -> Result<(), Failed>
-    ensures done { OnOk result (O.taken out.new ≡ more (O.taken out.old) text.now) }
-    ensures part { OnErr result ((count : ℕ) × (O.taken out.new ≡ more (O.taken out.old) (take count text.now))) }
-    ensures later { O.sink_faults out.old ≤ O.sink_faults out.new }
-    ensures failed { OnErr result (Rose (O.sink_faults out.old) (O.sink_faults out.new)) }
+    ensures gives { GivesWhole (O.sink_seen out.old) (O.sink_seen out.new) result text.now }
 {
     let mut at = 0;
     while at < text.len() {
@@ -66,51 +53,4 @@ pub fn give_all<O: Sink>(out: &mut O, text: &[u8]) -> Result<(), Failed>
         }
     }
     Ok(())
-}
-
-#[cfg(test)]
-mod tests {
-    use crate::{Failed, InputFault, MemSink, MemSource, Source, give_all, take_all};
-    use std::test::Fail;
-
-    #[test]
-    fn a_failing_call_leaves_the_bytes(rt: HostRuntime) -> Result<(), Fail> {
-        let alloc = rt.alloc();
-        let mut input = MemSource::new(b"abcde".to_vec(alloc)?, vec![in alloc; 2]?);
-        let mut buf = [0; 3];
-        assert_eq!(rt; input.take(&mut buf), Ok(3));
-        assert_eq!(rt; &buf, b"abc");
-        assert_eq!(rt; input.take(&mut buf), Err(Failed));
-        assert_eq!(rt; input.take(&mut buf), Ok(2));
-        assert_eq!(rt; &buf, b"dec");
-        assert_eq!(rt; input.take(&mut buf), Ok(0));
-
-        let mut out = MemSink::new(alloc, vec![in alloc; 2]?);
-        assert_eq!(rt; give_all(&mut out, b"one"), Ok(()));
-        assert_eq!(rt; give_all(&mut out, b"two"), Err(Failed));
-        assert_eq!(rt; give_all(&mut out, b"three"), Ok(()));
-        assert_eq!(rt; out.taken(), b"onethree".as_slice());
-        Ok(())
-    }
-
-    #[test]
-    fn a_source_is_read_to_its_end_under_a_limit(rt: HostRuntime) -> Result<(), Fail> {
-        let alloc = rt.alloc();
-        let cases = [
-            (5, 0, Ok(5)),
-            (4, 0, Err(InputFault::Limit)),
-            (0, 0, Err(InputFault::Limit)),
-            (9000, 1, Err(InputFault::Source)),
-            (9000, 2, Err(InputFault::Source)),
-            (9000, 3, Ok(5)),
-        ];
-        for (limit, failing, want) in cases {
-            let mut input = MemSource::new(b"abcde".to_vec(alloc)?, vec![in alloc; failing]?);
-            let taken = take_all(alloc, &mut input, limit);
-            assert_eq!(rt; taken.map(|bytes| bytes.len()), want, "{limit} {failing}");
-        }
-        let mut long = MemSource::new(vec![in alloc; 7; 9000]?, Vec::new(alloc));
-        assert_eq!(rt; take_all(alloc, &mut long, 9000)?.len(), 9000);
-        Ok(())
-    }
 }
