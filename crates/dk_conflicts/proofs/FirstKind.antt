@@ -1,12 +1,12 @@
 -- The first kind that is in the way, and the first commit.
-use Rattle.std.proofs.Common.{◌≡◌, ℕ, ◌+◌, ◌<◌, ◌≤◌, List, [], ◌∷◌, Bool, true, false, cond, Some, None, find, get_or, ap, sym, subst, ◌∙◌, drop, length, slice_index_or}
+use Rattle.std.proofs.Common.{◌≡◌, ℕ, ◌+◌, ◌<◌, ◌≤◌, List, Bool, true, false, cond, Some, None, find, get_or, ap, sym, subst, ◌∙◌, drop, length, slice_index_or}
 use Rattle.std.proofs.Math.ListN.{drop_of_length-le}
 use Rattle.std.proofs.lemmas.List.{drop_more}
 use Rattle.dk_model.specs.declared.action.Action.{Action}
 use Rattle.dk_model.specs.declared.kind.Kind.{Kind}
 use Rattle.dk_conflicts.specs.declared.reads.Reads.{Reads}
 use Rattle.dk_conflicts.specs.Conflicts.{conflict_from, first_in_the_way, kind_of}
-use Rattle.dk_conflicts.proofs.Gathered.{at_item}
+use Rattle.dk_model.proofs.NameSets.{at_item}
 
 module _ (test : Kind → Bool) (xs all : List Kind) (i : ℕ) (d : Kind) (same : xs ≡ all) where
   split : i < length xs → find test (drop i all) ≡ cond (test (slice_index_or xs i d)) (Some (slice_index_or xs i d)) (find test (drop (i + 1) all))

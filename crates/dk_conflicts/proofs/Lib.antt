@@ -1,2 +1,2 @@
-pub mod Gathered
+pub mod NamesLeft
 pub mod FirstKind

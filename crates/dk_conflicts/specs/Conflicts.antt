@@ -2,7 +2,8 @@
 -- the kinds and their names are those of the field).
 use Rattle.std.specs.Prelude.{ℕ, ◌+◌, List, [], ◌∷◌, Bool, true, false, ◌&&◌, ◌||◌, Option, Some, None, find}
 use Rattle.std.specs.List.{list_any, filter_map}
-use Rattle.std.specs.Str.{bytes_eq}
+use Rattle.dk_model.specs.NameSets.{is_one_of}
+use Rattle.dk_model.specs.Rows.{adds_rows, removes_rows}
 use Rattle.dk_model.specs.declared.action.Action.{Action}
 use Rattle.dk_model.specs.declared.action.Action.TheVariants as action
 use Rattle.dk_model.specs.declared.kind.Kind.{Kind}
@@ -22,16 +23,6 @@ abbrev pub is_metadata : Action → Bool
 is_metadata (action.Metadata m) = true
 is_metadata _ = false
 
--- an add of rows that weren't in the table before
-abbrev pub adds_rows : Action → Bool
-adds_rows (action.Add file) = file.data_change
-adds_rows _ = false
-
--- a remove of rows that are in the table no more
-abbrev pub removes_rows : Action → Bool
-removes_rows (action.Remove file) = file.data_change
-removes_rows _ = false
-
 -- the names that two commits can share: of the application that an action speaks of, of its domain, or of the file that it removes
 abbrev pub name_in : Topic → Action → Option (List ℕ)
 name_in topic.Application (action.Txn txn) = Some txn.app_id
@@ -41,9 +32,6 @@ name_in _ _ = None
 
 abbrev pub names_in : Topic → List Action → List (List ℕ)
 names_in about actions = filter_map (name_in about) actions
-
-abbrev pub is_one_of : List (List ℕ) → List ℕ → Bool
-is_one_of names name = list_any (λ other. bytes_eq other name) names
 
 -- ---- what was read
 

@@ -2,15 +2,17 @@
 
 ghost use Rattle.std.specs.Prelude.{◌≡◌, List, IfOk};
 ghost use Rattle.std.specs.List.{list_any};
-ghost use Rattle.dk_conflicts.specs.Claims.{AreClaims, HasNames, has_name};
-ghost use Rattle.dk_conflicts.specs.Conflicts.{adds_rows, all_kinds, conflict_of, files_read, is_in_the_way, is_metadata, is_protocol, is_table, kind_of, names_in, removes_rows};
+ghost use Rattle.dk_conflicts.specs.Claims.{AreClaims};
+ghost use Rattle.dk_conflicts.specs.Conflicts.{all_kinds, conflict_of, files_read, is_in_the_way, is_metadata, is_protocol, is_table, kind_of, names_in};
+ghost use Rattle.dk_model.specs.NameSets.{HasNames, has_name};
+ghost use Rattle.dk_model.specs.Rows.{adds_rows, removes_rows};
 ghost use Rattle.dk_model.specs.declared.action.Action.{Action};
 ghost use Rattle.dk_conflicts.specs.declared.reads.Reads.{Reads};
 ghost use Rattle.dk_model.specs.declared.kind.Kind.TheVariants as Kind;
 
 use crate::reads::Reads;
 use crate::topic::{Topic, name_of};
-use dk_model::{Action, Commit, Kind, Text};
+use dk_model::{Action, Commit, Kind, name_set};
 use std::alloc::{AllocError, Global};
 use std::collections::BTreeSet;
 
@@ -65,30 +67,12 @@ fn has_metadata(actions: &[Action]) -> bool
     false
 }
 
-fn adds_rows(action: &Action) -> bool
-    ensures { result ≡ adds_rows action.now }
-{
-    match action {
-        Action::Add(file) => file.data_change,
-        _ => false,
-    }
-}
-
-fn removes_rows(action: &Action) -> bool
-    ensures { result ≡ removes_rows action.now }
-{
-    match action {
-        Action::Remove(file) => file.data_change,
-        _ => false,
-    }
-}
-
 /// Whether rows are added that weren't in the table before.
 fn add_rows(actions: &[Action]) -> bool
     ensures { result ≡ list_any adds_rows actions.now }
 {
     'actions: for action in actions {
-        if adds_rows(action) {
+        if action.adds_rows() {
             return true;
         }
     }
@@ -100,22 +84,11 @@ fn remove_rows(actions: &[Action]) -> bool
     ensures { result ≡ list_any removes_rows actions.now }
 {
     'actions: for action in actions {
-        if removes_rows(action) {
+        if action.removes_rows() {
             return true;
         }
     }
     false
-}
-
-/// The names that a list has.
-fn names_of_list(alloc: Global, list: &[Text]) -> Result<BTreeSet<&str>, AllocError>
-    ensures { IfOk result (λ names. HasNames names list.now) }
-{
-    let mut names: BTreeSet<&str> = BTreeSet::new(alloc);
-    'list: for name in list {
-        names.insert(name.as_str())?;
-    }
-    Ok(names)
 }
 
 /// The names of this kind that actions have.
@@ -136,7 +109,7 @@ fn files_of(alloc: Global, reads: &Reads) -> Result<BTreeSet<&str>, AllocError>
     ensures { IfOk result (λ names. HasNames names (files_read reads.now)) }
 {
     match reads {
-        Reads::Files(paths) => names_of_list(alloc, paths.as_slice()),
+        Reads::Files(paths) => name_set(alloc, paths.as_slice()),
         _ => Ok(BTreeSet::new(alloc)),
     }
 }
@@ -165,7 +138,8 @@ fn has_one(topic: Topic, names: &BTreeSet<&str>, winner: &[Action]) -> bool
 }
 
 impl<'a> Claims<'a> {
-    /// The claims of a transaction that has read this and would commit these actions.
+    /// The claims of a transaction that has read this and would commit these actions. Takes memory in proportion to the names
+    /// in both; `Err` says that it was wanted and not had.
     pub fn new(alloc: Global, reads: &'a Reads, own: &'a [Action]) -> Result<Claims<'a>, AllocError>
         ensures { IfOk result (λ claims. AreClaims claims reads.now own.now) }
     {

@@ -4,8 +4,6 @@
 
 mod claims;
 mod reads;
-#[cfg(test)]
-mod tests;
 mod topic;
 
 pub use claims::Claims;

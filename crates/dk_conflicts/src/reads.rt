@@ -3,7 +3,7 @@
 use dk_model::Names;
 
 /// What of the table a transaction has read before it commits.
-#[derive(Debug, Drop)]
+#[derive(Drop)]
 pub enum Reads {
     /// Nothing: what it commits stands beside whatever others commit.
     Nothing,

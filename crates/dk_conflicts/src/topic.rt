@@ -6,7 +6,7 @@ ghost use Rattle.dk_conflicts.specs.Conflicts.{name_in};
 use dk_model::{Action, Text};
 
 /// What a name is of.
-#[derive(Clone, Copy, Debug, PartialEq, Eq)]
+#[derive(Clone, Copy)]
 pub(crate) enum Topic {
     /// An application that an action speaks of.
     Application,

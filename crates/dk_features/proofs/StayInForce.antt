@@ -7,7 +7,8 @@ use Rattle.std.proofs.lemmas.Bool.{and_parts}
 use Rattle.std.proofs.lemmas.List.Folds.{list_any-append, list_all-append}
 use Rattle.std.proofs.lemmas.Slice.Eq.{bytes_eq-Decides}
 use Rattle.dk_model.specs.declared.action.Protocol.{Protocol}
-use Rattle.dk_features.specs.Names.{append_only, invariants, check_constraints, change_data_feed, generated_columns, column_mapping, identity_columns, is_one_of}
+use Rattle.dk_model.specs.NameSets.{is_one_of}
+use Rattle.dk_features.specs.Names.{append_only, invariants, check_constraints, change_data_feed, generated_columns, column_mapping, identity_columns}
 use Rattle.dk_features.specs.InForce.{implied, listed, is_implied_found, is_implied_name, is_mapped, is_in_force}
 use Rattle.dk_features.specs.Forms.{nameable, stays_in_force, keeps_features}
 

@@ -7,7 +7,8 @@ use Rattle.std.proofs.lemmas.Slice.Eq.{bytes_eq-Decides}
 use Rattle.dk_features.specs.declared.fault.FeatureFault.{FeatureFault}
 use Rattle.dk_features.specs.declared.fault.FeatureFault.TheVariants as faults
 use Rattle.dk_features.specs.declared.fault.FeatureList.TheVariants as lists
-use Rattle.dk_features.specs.Names.{invariants, is_one_of}
+use Rattle.dk_model.specs.NameSets.{is_one_of}
+use Rattle.dk_features.specs.Names.{invariants}
 use Rattle.dk_features.specs.Support.{answer_of, Answers, fault_at, is_unwritten, unwritten_listed}
 
 turned : (xs ys : List ℕ) (r : Bool) → bytes_eq xs ys ≡ r → bytes_eq ys xs ≡ false → r ≡ false

@@ -11,7 +11,8 @@ use Rattle.dk_model.specs.declared.action.Metadata.{Metadata}
 use Rattle.dk_features.specs.declared.fault.FeatureFault.{FeatureFault}
 use Rattle.dk_features.specs.declared.fault.FeatureFault.TheVariants as faults
 use Rattle.dk_features.specs.declared.fault.FeatureList.TheVariants as lists
-use Rattle.dk_features.specs.Names.{catalog_managed, is_one_of}
+use Rattle.dk_model.specs.NameSets.{is_one_of}
+use Rattle.dk_features.specs.Names.{catalog_managed}
 use Rattle.dk_features.specs.InForce.{is_implied_name, is_in_force, is_mapped, listed}
 use Rattle.dk_features.specs.Invariants.{uses_invariants}
 use Rattle.dk_features.specs.Support.{fault_at, is_unwritten, unread, unwritten, unwritten_implied, unwritten_listed, unwritten_version}

@@ -4,7 +4,8 @@ use Rattle.std.specs.Prelude.{ℕ, List, [], ◌∷◌, ◌++◌, Bool, true, fa
 use Rattle.std.specs.List.{list_any, list_all}
 use Rattle.std.specs.Str.{bytes_eq}
 use Rattle.dk_model.specs.declared.action.Protocol.{Protocol}
-use Rattle.dk_features.specs.Names.{is_one_of, reader_and_writer}
+use Rattle.dk_model.specs.NameSets.{is_one_of}
+use Rattle.dk_features.specs.Names.{reader_and_writer}
 use Rattle.dk_features.specs.InForce.{implied, is_in_force, listed}
 
 -- ---- lists of names

@@ -2,7 +2,8 @@
 use Rattle.std.specs.Prelude.{ℕ, List, [], ◌∷◌, Bool, false, find, ◌&&◌, ◌||◌, ◌==◌, Option, Some, None, nat_le, nat_lt, if◌then◌else◌}
 use Rattle.std.specs.Str.{bytes_eq}
 use Rattle.dk_model.specs.declared.action.Protocol.{Protocol}
-use Rattle.dk_features.specs.Names.{append_only, invariants, check_constraints, change_data_feed, generated_columns, column_mapping, identity_columns, is_one_of}
+use Rattle.dk_model.specs.NameSets.{is_one_of}
+use Rattle.dk_features.specs.Names.{append_only, invariants, check_constraints, change_data_feed, generated_columns, column_mapping, identity_columns}
 
 -- the features that a version of the protocol below 7 stands for, in order: each with the least version of a writer that has it
 abbrev pub implied : List (List ℕ × ℕ)

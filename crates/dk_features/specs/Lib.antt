@@ -2,6 +2,5 @@ pub mod Names
 pub mod InForce
 pub mod Invariants
 pub mod Support
-pub mod Sets
 pub mod Forms
 pub mod Listed

@@ -1,8 +1,6 @@
 -- The features whose tables are read and written, by their names (Delta Lake's PROTOCOL.md, "Valid Feature Names in Table Features").
 -- Those whose names stand in neither list below aren't known.
-use Rattle.std.specs.Prelude.{ℕ, List, [], ◌∷◌, Bool, codes}
-use Rattle.std.specs.List.{list_any}
-use Rattle.std.specs.Str.{bytes_eq}
+use Rattle.std.specs.Prelude.{ℕ, List, [], ◌∷◌, codes}
 
 abbrev pub append_only : List ℕ
 append_only = codes "appendOnly"
@@ -58,6 +56,3 @@ reading_alone = invariants ∷ check_constraints ∷ change_data_feed ∷ genera
 -- the features that readers must know too; all others are asked of writers alone
 abbrev pub reader_and_writer : List (List ℕ)
 reader_and_writer = column_mapping ∷ deletion_vectors ∷ timestamp_ntz ∷ v2_checkpoint ∷ type_widening ∷ vacuum_protocol_check ∷ catalog_managed ∷ []
-
-abbrev pub is_one_of : List (List ℕ) → List ℕ → Bool
-is_one_of names name = list_any (bytes_eq name) names

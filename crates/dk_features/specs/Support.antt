@@ -10,7 +10,8 @@ use Rattle.dk_features.specs.declared.fault.FeatureFault.{FeatureFault}
 use Rattle.dk_features.specs.declared.fault.FeatureFault.TheVariants as faults
 use Rattle.dk_features.specs.declared.fault.FeatureList.{FeatureList}
 use Rattle.dk_features.specs.declared.fault.FeatureList.TheVariants as lists
-use Rattle.dk_features.specs.Names.{both, reading_alone, invariants, is_one_of}
+use Rattle.dk_model.specs.NameSets.{is_one_of}
+use Rattle.dk_features.specs.Names.{both, reading_alone, invariants}
 use Rattle.dk_features.specs.InForce.{implied, is_implied, listed}
 use Rattle.dk_features.specs.Invariants.{uses_invariants}
 

@@ -3,7 +3,8 @@
 ghost use Rattle.std.specs.Prelude.{◌≡◌, ◌<◌, [], find, get_or, map, option_map};
 ghost use Rattle.std.specs.Str.{bytes_eq};
 ghost use Rattle.dk_features.specs.InForce.{implied, is_implied, is_implied_name, is_in_force, is_mapped, listed};
-ghost use Rattle.dk_features.specs.Names.{both, is_one_of, reading_alone};
+ghost use Rattle.dk_features.specs.Names.{both, reading_alone};
+ghost use Rattle.dk_model.specs.NameSets.{is_one_of};
 
 use dk_model::{Names, Protocol, Text};
 

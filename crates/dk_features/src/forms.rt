@@ -4,12 +4,11 @@ ghost use Rattle.std.specs.Prelude.{◌≡◌, ◌||◌, IfOk, None, Some, map};
 ghost use Rattle.std.specs.List.{list_all};
 ghost use Rattle.dk_features.specs.Forms.{are_matched, asks_writers_alone, has_form, has_form_with, is_each_once, is_first_reader, keeps_features, stays_in_force};
 ghost use Rattle.dk_features.specs.InForce.{implied, is_in_force, listed};
-ghost use Rattle.dk_features.specs.Names.{is_one_of};
-ghost use Rattle.dk_features.specs.Sets.{HasNames, has_name};
+ghost use Rattle.dk_model.specs.NameSets.{HasNames, has_name};
 ghost use Rattle.dk_features.specs.Listed.{IsListing};
 
 use crate::features::{IMPLIED_COUNT, implied_name, is_implied_name, is_mapped, listed};
-use dk_model::{Protocol, Text};
+use dk_model::{Protocol, Text, name_set};
 use std::alloc::{AllocError, Global};
 use std::collections::BTreeSet;
 
@@ -38,17 +37,6 @@ fn all_ask_writers_alone(names: &[Text]) -> bool
         }
     }
     true
-}
-
-/// The names of a list.
-fn names_of(alloc: Global, list: &[Text]) -> Result<BTreeSet<&str>, AllocError>
-    ensures { IfOk result (λ names. HasNames names list.now) }
-{
-    let mut names: BTreeSet<&str> = BTreeSet::new(alloc);
-    'list: for name in list {
-        names.insert(name.as_str())?;
-    }
-    Ok(names)
 }
 
 /// Whether no name of a list stands twice.
@@ -91,8 +79,8 @@ fn are_known<'a>(names: &BTreeSet<&'a str>, list: &'a [Text]) -> bool
 fn are_matched(alloc: Global, readers: &[Text], writers: &[Text]) -> Result<bool, AllocError>
     ensures { IfOk result (λ matched. matched ≡ are_matched readers.now writers.now) }
 {
-    let reader_names = names_of(alloc, readers)?;
-    let writer_names = names_of(alloc, writers)?;
+    let reader_names = name_set(alloc, readers)?;
+    let writer_names = name_set(alloc, writers)?;
     Ok(are_among(&writer_names, readers) && are_known(&reader_names, writers))
 }
 
@@ -175,7 +163,7 @@ fn with_names(alloc: Global, protocol: &Protocol) -> Result<Listing<'_>, AllocEr
 {
     Ok(Listing {
         protocol,
-        names: names_of(alloc, listed(&protocol.writer_features))?,
+        names: name_set(alloc, listed(&protocol.writer_features))?,
     })
 }
 

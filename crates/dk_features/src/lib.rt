@@ -8,8 +8,6 @@ mod forms;
 mod naming;
 mod reading;
 mod schema;
-#[cfg(test)]
-mod tests;
 mod writing;
 
 pub use fault::{FeatureFault, FeatureList};

@@ -8,9 +8,10 @@ use Rattle.dk_store.specs.Objects.{object, content}
 use Rattle.dk_paths.specs.Names.{commit_path}
 use Rattle.dk_paths.specs.Places.{Place, Commit_at, Classic, Part, V2, Staged, place_of, log_front, staged_front}
 use Rattle.dk_paths.proofs.PlaceLaws.{place_of_path}
-use Rattle.dk_lawful.specs.History.{By_file, By_catalogue, RatifiedCommit, by_file, by_catalogue, history, state_of, longer, after_made, staged_commit, next_version, table}
+use Rattle.dk_lawful.specs.History.{By_file, By_catalogue, RatifiedCommit, by_file, by_catalogue, history, commits_of, state_of, longer, after_made, staged_commit, next_version}
 use Rattle.dk_lawful.specs.Managed.{is_managed}
 use Rattle.dk_lawful.specs.Rules.{first_broken}
+use Rattle.dk_lawful.specs.Timestamps.{last_timestamp}
 use Rattle.dk_lawful.specs.Permits.{Permits, MayMake, MayOver, MayDelete, AddsCommit}
 use Rattle.dk_lawful.specs.Present.{Holds, Complete}
 use Rattle.dk_store.specs.Standings.{standing}
@@ -52,16 +53,20 @@ history_one bytes actions means =
 first_history : history (first_event ∷ []) ≡ by_file first_actions ∷ []
 first_history = history_one first_text first_actions first_means
 
+-- the first rule that a commit breaks after this history
+abbrev pub broken_after : List RatifiedCommit → List Action → Option ℕ
+broken_after h actions = first_broken (state_of h) (last_timestamp (commits_of h)) (length (commits_of h)) actions
+
 -- a commit that is valid after this history
 pub adds : (events : List Told) (h : List RatifiedCommit) (version : ℕ) (bytes : List ℕ) (actions : List Action) → history events ≡ h → version ≡ length h
-    → is_managed (state_of h) ≡ false → first_broken (state_of h) version actions ≡ None → commit_of bytes ≡ Some actions → AddsCommit events version bytes
+    → is_managed (state_of h) ≡ false → broken_after h actions ≡ None → commit_of bytes ≡ Some actions → AddsCommit events version bytes
 adds events h version bytes actions is next unmanaged valid means = (
   actions,
   means,
   record {
     next = next ∙ ap length (sym is);
     by_file = ap (λ l. is_managed (state_of l)) is ∙ unmanaged;
-    valid = ap (λ l. first_broken (state_of l) version actions) is ∙ valid;
+    valid = ap (λ l. broken_after l actions) is ∙ valid;
   },
 )
 
@@ -132,11 +137,10 @@ unreadable horizon may =
 
 -- a commit that breaks a rule after this history
 pub broken : (events : List Told) (h : List RatifiedCommit) (version rule : ℕ) (bytes : List ℕ) (actions : List Action) → history events ≡ h
-    → first_broken (state_of h) version actions ≡ Some rule → commit_of bytes ≡ Some actions → AddsCommit events version bytes → ⊥
+    → broken_after h actions ≡ Some rule → commit_of bytes ≡ Some actions → AddsCommit events version bytes → ⊥
 broken events h version rule bytes actions is breaks means may =
     let same : may.0 ≡ actions = (let both : Some may.0 ≡ Some actions = sym may.1 ∙ means in cc) in
-    let valid : first_broken (state_of h) version actions ≡ None =
-    ap (λ l. first_broken (state_of l) version actions) (sym is) ∙ ap (first_broken (table events) version) (sym same) ∙ may.2.valid in
+    let valid : broken_after h actions ≡ None = ap (λ l. broken_after l actions) (sym is) ∙ ap (broken_after (history events)) (sym same) ∙ may.2.valid in
     let no : ◌≡◌ {A = Option ℕ} None (Some rule) = sym valid ∙ breaks in cc
 
 twice_means : commit_of (second_text ++ second_text) ≡ Some (second_actions ++ second_actions)
@@ -160,7 +164,7 @@ unfolding commits_on_literals shrinking_text
 shrinking_means = refl
 
 -- a commit that breaks a rule after the example
-pub breaks : (rule : ℕ) (bytes : List ℕ) (actions : List Action) → first_broken (state_of (by_file first_actions ∷ by_file second_actions ∷ [])) 2 actions ≡ Some rule
+pub breaks : (rule : ℕ) (bytes : List ℕ) (actions : List Action) → broken_after (by_file first_actions ∷ by_file second_actions ∷ []) actions ≡ Some rule
     → commit_of bytes ≡ Some actions → IsForbidden example (Made (commit_path 2) bytes (pos 2))
 breaks rule bytes actions is means horizon may =
     broken example (by_file first_actions ∷ by_file second_actions ∷ []) 2 rule bytes actions example_history is means (may_add example horizon 2 bytes (pos 2) (omega arith) refl may)

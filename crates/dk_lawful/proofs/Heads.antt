@@ -9,6 +9,7 @@ use Rattle.dk_model.specs.declared.state.TableState.{TableState}
 use Rattle.dk_model.specs.State.{step, steps, steps_of_all, fold, empty_state}
 use Rattle.dk_lawful.specs.History.{RatifiedCommit, commits_of, state_of, HasHeads}
 use Rattle.dk_lawful.specs.Rules.{protocol_in, metadata_in, keeps_heads, IsValidNext}
+use Rattle.dk_lawful.specs.Timestamps.{last_timestamp}
 use Rattle.dk_lawful.proofs.Management.{kept}
 use Rattle.dk_lawful.proofs.Sound.{length_commits}
 
@@ -66,7 +67,7 @@ whole_now h all count is =
     let whole : take (count + 1) (commits_of h) ≡ commits_of h = ap (λ n. take n (commits_of h)) (let e : count + 1 ≡ length (commits_of h) = omega arith in e) ∙ take-length (commits_of h) in
     subst (λ cs. HasHeads (fold cs)) whole (all count (omega arith))
 
-pub one_more : (h : List RatifiedCommit) (commit : RatifiedCommit) → AllWhole h → IsValidNext (state_of h) (length h) commit.actions → AllWhole (h ++ commit ∷ [])
+pub one_more : (h : List RatifiedCommit) (commit : RatifiedCommit) → AllWhole h → IsValidNext (commits_of h) commit.actions → AllWhole (h ++ commit ∷ [])
 one_more h commit all valid version below = elim (cases_lt version (length h)) [
   | inl less ↦
       let front : take (version + 1) (commits_of (h ++ commit ∷ [])) ≡ take (version + 1) (commits_of h) =
@@ -83,5 +84,6 @@ one_more h commit all valid version below = elim (cases_lt version (length h)) [
 ]
   where
     at : (count : ℕ) → length h ≡ count → HasHeads (steps (state_of h) commit.actions)
-    at zero is = begins (state_of h) commit.actions (ap (λ v. keeps_heads v commit.actions) (sym is) ∙ (kept (state_of h) (length h) commit.actions valid).heads)
+    at zero is = begins (state_of h) commit.actions
+        (ap (λ v. keeps_heads v commit.actions) (sym (length_commits h ∙ is)) ∙ (kept (state_of h) (last_timestamp (commits_of h)) (length (commits_of h)) commit.actions valid).heads)
     at (suc count) is = heads_step (state_of h) commit.actions (whole_now h all count is)

@@ -2,7 +2,8 @@
 use Rattle.std.proofs.Common.{◌≡◌, ℕ, zero, suc, ◌≤◌, ◌⊎◌, inl, inr, length, List, [], ◌∷◌, ◌++◌, Option, Some, None, slice_get, refl, sym, ap, subst, ◌∙◌, arith, append-nil}
 use Rattle.dk_store.specs.Told.{Told}
 use Rattle.dk_lawful.specs.History.{RatifiedCommit, history}
-use Rattle.dk_lawful.specs.Ids.{SaysId, HasId, StandsOnce, AddsId, IdsStandOnce, IdsStay, IdsAreNoMore}
+use Rattle.dk_lawful.specs.Ids.{SaysId, HasId, StandsOnce, AddsId, IdsStandOnce, IdsStay, IdsAreNoMore, AddedStandsAt, StandsAtForGood}
+use Rattle.dk_lawful.proofs.Lists.{slice_get-end}
 use Rattle.dk_lawful.proofs.Structure.{grows_by_one, commits_stay}
 
 -- what one event makes of the ids at versions: none is new, or one at the end
@@ -63,3 +64,18 @@ ids_are_no_more (event ∷ newer) events version id without has = elim (had_id (
   | inl before ↦ ids_are_no_more newer events version id without.1 before
   | inr (last, new) ↦ absurd (without.0 new)
 ]
+
+pub added_stands_at : AddedStandsAt
+added_stands_at events later commit id nowhere more says = record {
+  has = (commit, ap (λ h. slice_get h (length (history events))) more ∙ slice_get-end (history events) commit, says);
+  alone = λ other (found, is, has). elim (of_longer (history events) commit found other (ap (λ h. slice_get h other) (sym more) ∙ is)) [
+    | inl before ↦ absurd (nowhere other (found, before, has))
+    | inr (last, same) ↦ last
+  ];
+}
+
+pub stands_at_for_good : StandsAtForGood
+stands_at_for_good newer events version id without stands = record {
+  has = ids_stay newer events version id stands.has;
+  alone = λ other has. stands.alone other (ids_are_no_more newer events other id without has);
+}

@@ -1,5 +1,5 @@
 -- A feature that is in force stays so, as each protocol of a commit that keeps the rules has those in force before; so does management by a catalogue.
-use Rattle.std.proofs.Common.{◌≡◌, ℕ, Bool, true, false, not, List, [], ◌∷◌, Option, Some, None, if◌then◌else◌, refl, sym, true≢false, filter_map}
+use Rattle.std.proofs.Common.{◌≡◌, ℕ, ℤ, Bool, true, false, not, List, [], ◌∷◌, Option, Some, None, if◌then◌else◌, refl, sym, true≢false, filter_map}
 use Rattle.std.specs.List.{list_all}
 use Rattle.std.proofs.lemmas.Bool.{and_parts}
 use Rattle.dk_model.specs.declared.action.Action.{Action}
@@ -11,7 +11,7 @@ use Rattle.dk_features.specs.Names.{catalog_managed}
 use Rattle.dk_features.specs.InForce.{has_feature}
 use Rattle.dk_features.specs.Forms.{has_form, keeps_features}
 use Rattle.dk_features.proofs.StayInForce.{stays}
-use Rattle.dk_lawful.specs.Rules.{protocol_in, is_not_lower, may_follow, is_protocol_kept, keeps_heads, keeps_kinds, keeps_paths_apart, keeps_names_apart, keeps_protocol, keeps_writer, IsValidNext}
+use Rattle.dk_lawful.specs.Rules.{protocol_in, is_not_lower, may_follow, is_protocol_kept, keeps_heads, keeps_kinds, keeps_paths_apart, keeps_names_apart, keeps_protocol, keeps_writer, KeepsRules}
 use Rattle.dk_lawful.specs.Laws.{FeaturesStay, ManagementStays}
 
 -- the tests in a row that no rule broken passes
@@ -24,8 +24,8 @@ pub record Kept (before : TableState) (version : ℕ) (actions : List Action) : 
   pub protocol : keeps_protocol before actions ≡ true
   pub writer : keeps_writer before actions ≡ true
 
-pub kept : (before : TableState) (version : ℕ) (actions : List Action) → IsValidNext before version actions → Kept before version actions
-kept before version actions valid =
+pub kept : (before : TableState) (last : Option ℤ) (version : ℕ) (actions : List Action) → KeepsRules before last version actions → Kept before version actions
+kept before last version actions valid =
     let one = passed (keeps_heads version actions) 1 _ valid in
     let two = passed (keeps_kinds actions) 2 _ one.1 in
     let three = passed (keeps_paths_apart actions) 3 _ two.1 in
@@ -51,7 +51,7 @@ feature_after before name first s (action.Protocol p ∷ rest) keeps now =
 feature_after before name first s (a ∷ rest) keeps now = feature_after before name first (step s a) rest keeps now
 
 pub features_stay : FeaturesStay
-features_stay before version actions name valid now = feature_after before.protocol name now before actions ((kept before version actions valid).protocol) now
+features_stay before last version actions name valid now = feature_after before.protocol name now before actions ((kept before last version actions valid).protocol) now
 
 pub management_stays : ManagementStays
-management_stays before version actions valid managed = features_stay before version actions catalog_managed valid managed
+management_stays before last version actions valid managed = features_stay before last version actions catalog_managed valid managed

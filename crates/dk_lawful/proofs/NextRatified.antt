@@ -5,7 +5,8 @@ use Rattle.dk_store.specs.Standings.{above, next_ratified}
 use Rattle.dk_store.specs.Writing.{MayRatify}
 use Rattle.dk_paths.specs.Places.{Place, Commit_at, Classic, Part, V2, Compacted, Hint, Sidecar, Staged, Other, place_of}
 use Rattle.dk_lawful.specs.Managed.{is_managed}
-use Rattle.dk_lawful.specs.History.{RatifiedCommit, by_catalogue, after_made, history, state_of, table}
+use Rattle.dk_lawful.specs.Timestamps.{last_timestamp}
+use Rattle.dk_lawful.specs.History.{RatifiedCommit, by_catalogue, after_made, history, commits_of, state_of, table}
 use Rattle.dk_lawful.specs.Permits.{MayMake, RatifiesCommit}
 use Rattle.dk_lawful.specs.Lawful.{Lawful}
 use Rattle.dk_lawful.specs.Laws.{NextIsRatifiedNext}
@@ -63,7 +64,7 @@ ratified_goes events version name may goes =
     let now = ratifies_itself events version name may in
     let long : length (history (Ratified version name ∷ events)) ≡ length (history events) + 1 = ap length now ∙ length-append (history events) (by_catalogue may.actions ∷ []) in (
       long ∙ ap (λ n. n + 1) (sym may.next) ∙ sym (above_next (history events) version (next_ratified events) may.next goes),
-      ap is_managed (ap state_of now ∙ state_after (history events) (by_catalogue may.actions)) ∙ management_stays (table events) version may.actions may.valid may.by_catalogue,
+      ap is_managed (ap state_of now ∙ state_after (history events) (by_catalogue may.actions)) ∙ management_stays (table events) (last_timestamp (commits_of (history events))) (length (commits_of (history events))) may.actions may.valid may.by_catalogue,
     )
 
 goes_on_from : (events : List Told) (horizon : ℤ) → Lawful events horizon → GoesOnFrom (history events) (next_ratified events)

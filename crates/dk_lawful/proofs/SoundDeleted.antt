@@ -32,7 +32,7 @@ module _ (es : List Told) (path : List ℕ) where
   was : (place : Place) → Present (Deleted path ∷ es) place → Present es place
   was place (held, holds) = (held, found_deleted es path place held holds)
 
-  Complete_deleted : (version : ℕ) → IsApart (place_of path) version → Complete es version → Complete (Deleted path ∷ es) version
+  pub Complete_deleted : (version : ℕ) → IsApart (place_of path) version → Complete es version → Complete (Deleted path ∷ es) version
   Complete_deleted version apart (inl at) = inl (keep (Classic version) (λ is. subst (λ place. IsApart place version) is apart refl) at)
   Complete_deleted version apart (inr (inl (id, (json, at)))) =
       inr (inl (id, (json, keep (V2 version id json) (λ is. subst (λ place. IsApart place version) is apart refl) at)))

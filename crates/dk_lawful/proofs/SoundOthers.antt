@@ -12,6 +12,7 @@ use Rattle.dk_paths.specs.Places.{Place, Commit_at, Classic, Part, V2, Compacted
 use Rattle.dk_paths.specs.Staged.{staged_name}
 use Rattle.dk_lawful.specs.Present.{Holds, Present, AtMostPublished, Complete, staged_bytes}
 use Rattle.dk_lawful.specs.Managed.{is_managed}
+use Rattle.dk_lawful.specs.Timestamps.{last_timestamp}
 use Rattle.dk_lawful.specs.History.{By_catalogue, RatifiedCommit, by_catalogue, history, next_version, commits_of, state_of, table, table_before, staged_commit}
 use Rattle.dk_lawful.specs.Floor.{HasBetween}
 use Rattle.dk_lawful.specs.Checkpoints.{IsTopOf}
@@ -35,7 +36,7 @@ module _ (es later : List Told) (same : SameObjects es later) where
   here : (place : Place) → Present es place → Present later place
   here place (held, holds) = (held, same.keep place held holds)
 
-  Complete_same : (version : ℕ) → Complete es version → Complete later version
+  pub Complete_same : (version : ℕ) → Complete es version → Complete later version
   Complete_same version (inl at) = inl (here (Classic version) at)
   Complete_same version (inr (inl (id, (json, at)))) = inr (inl (id, (json, here (V2 version id json) at)))
   Complete_same version (inr (inr (parts, some, all))) = inr (inr (parts, some, λ part low high. here (Part version part parts) (all part low high)))
@@ -67,7 +68,7 @@ module _ (es later : List Told) (same : SameObjects es later) where
 ratified_same : (es : List Told) (version : ℕ) (name : List ℕ) → SameObjects es (Ratified version name ∷ es)
 ratified_same es version name = record { keep = λ place held holds. held_ratified es version name place held holds; was = λ place held holds. was_ratified es version name place held holds }
 
-forgotten_same : (es : List Told) (upto : ℕ) → SameObjects es (Forgotten upto ∷ es)
+pub forgotten_same : (es : List Told) (upto : ℕ) → SameObjects es (Forgotten upto ∷ es)
 forgotten_same es upto = record { keep = λ place held holds. held_forgotten es upto place held holds; was = λ place held holds. was_forgotten es upto place held holds }
 
 -- a ratification of the next version adds its staged commit to the history
@@ -123,7 +124,7 @@ ratify es version name horizon may sound =
           stands_same es (Ratified version name ∷ es) same on other given
           (sound.standings other given (sym (ap (λ (b : Bool). if b then Some name else standing es other) (ne_eqb version other apart)) ∙ is))
     ])
-    (λ none. absurd (true≢false (sym (management_stays (table es) version may.actions may.valid may.by_catalogue)
+    (λ none. absurd (true≢false (sym (management_stays (table es) (last_timestamp (commits_of (history es))) (length (commits_of (history es))) may.actions may.valid may.by_catalogue)
     ∙ sym (ap is_managed (ap state_of now ∙ state_after (history es) (by_catalogue may.actions))) ∙ none)))
     (λ other limit below floor. elim (cases_lt other (next_version es)) [
       | inl less ↦ elim (sound.covered other limit less floor) [

@@ -10,7 +10,7 @@ use Rattle.dk_paths.specs.Places.{Place, Commit_at, place_of, place_path, IsPlac
 use Rattle.dk_paths.proofs.PlaceLaws.{place_of_path, path_of_place}
 use Rattle.dk_lawful.specs.Present.{Holds}
 
-same_text : (a b : List ℕ) → bytes_eq a b ≡ true → a ≡ b
+pub same_text : (a b : List ℕ) → bytes_eq a b ≡ true → a ≡ b
 same_text a b is = (bytes_decides a b).0 is
 
 pub text_refl : (a : List ℕ) → bytes_eq a a ≡ true

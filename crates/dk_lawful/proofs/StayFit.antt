@@ -1,7 +1,9 @@
 -- What others do leaves those who are at work fit.
-use Rattle.std.proofs.Common.{◌≡◌, ℕ, ◌+◌, ◌≤◌, inl, inr, length, take, List, [], ◌∷◌, ◌++◌, Option, Some, None, sym, ap, subst, ◌∙◌, arith, length-append}
+use Rattle.std.proofs.Common.{◌≡◌, ℕ, ◌+◌, ◌*◌, ◌/◌, ◌^◌, ◌<◌, ◌≤◌, inl, inr, length, take, List, [], ◌∷◌, ◌++◌, Option, Some, None, sym, ap, subst, ◌∙◌, arith, length-append}
 use Rattle.std.specs.Prelude.{Contains}
+use Rattle.std.proofs.lemmas.Bool.{cases_lt}
 use Rattle.std.proofs.lemmas.Int.{ints}
+use Rattle.std.proofs.Math.Nat.{mod-add-div}
 use Rattle.std.proofs.lemmas.List.{map-append, take-append-le}
 use Rattle.dk_model.specs.State.{fold}
 use Rattle.dk_store.specs.Told.{Told, Made, Over, Deleted, Ratified, Forgotten}
@@ -11,8 +13,8 @@ use Rattle.dk_lawful.specs.Present.{Holds}
 use Rattle.dk_lawful.specs.History.{RatifiedCommit, history, next_version, commits_of}
 use Rattle.dk_lawful.specs.Rules.{IsValidNext}
 use Rattle.dk_lawful.specs.Agree.{Agree}
-use Rattle.dk_lawful.specs.Actors.{OwnStaged, Transaction, commit_by, OwnFits, Writes, LeaveUnwritten, TransactionsStayFit, JobsStayFit, OthersStayFit, GreaterHorizonFits, NobodyFits}
-use Rattle.dk_lawful.proofs.IdsOnce.{ids_stay, ids_are_no_more}
+use Rattle.dk_lawful.specs.Actors.{OwnStaged, Transaction, commit_by, OwnFits, drawn, Writes, LeaveUnwritten, TransactionsStayFit, JobsStayFit, OthersStayFit, GreaterHorizonFits, NobodyFits, BegunFits, PutStaysFit}
+use Rattle.dk_lawful.proofs.IdsOnce.{ids_stand_once, ids_stay, ids_are_no_more}
 use Rattle.dk_lawful.proofs.Sound.{length_commits, published_within}
 use Rattle.dk_lawful.proofs.SoundOthers.{lawful_is_sound}
 use Rattle.dk_lawful.proofs.Standing.{found_made, found_over, found_deleted, was_ratified, was_forgotten}
@@ -51,8 +53,10 @@ module _ (newer events : List Told) where
   own_fits : (t : Transaction) (own : OwnStaged) → LeaveUnwritten newer (Staged own.version own.uuid) → OwnFits events t own → OwnFits (newer ++ events) t own
   own_fits t own apart fits = record {
     below = (let below = fits.below in let more = longer in omega arith);
-    valid = subst (λ commits. IsValidNext (fold commits) own.version (commit_by t)) (sym (same_front own.version fits.below)) fits.valid;
-    means = λ bytes holds. fits.means bytes (all_stood newer events (Staged own.version own.uuid) bytes apart holds);
+    moment = fits.moment;
+    valid = subst (λ commits. IsValidNext commits (commit_by t commits fits.moment)) (sym (same_front own.version fits.below)) fits.valid;
+    means = λ bytes holds. fits.means bytes (all_stood newer events (Staged own.version own.uuid) bytes apart holds)
+        ∙ ap (λ commits. Some (commit_by t commits fits.moment)) (sym (same_front own.version fits.below));
   }
 
 pub transactions_stay_fit : TransactionsStayFit
@@ -77,11 +81,17 @@ jobs_stay_fit newer events horizon job lawful others fits =
     }
 
 pub others_stay_fit : OthersStayFit
-others_stay_fit newer events horizon actors lawful others others_to_jobs unused fits = record {
+others_stay_fit newer events horizon actors lawful others others_to_jobs adds unused fits = record {
   transactions = λ t among. transactions_stay_fit newer events horizon t (others t among) (fits.transactions t among);
   jobs = λ job among. jobs_stay_fit newer events horizon job lawful (others_to_jobs job among) (fits.jobs job among);
   ids = fits.ids;
+  sidecar_ids = fits.sidecar_ids;
   apart = fits.apart;
+  once = λ count small. elim (cases_lt count actors.count) [
+    | inl less ↦ ids_stand_once newer events (id_text (drawn actors.base count)) (adds count less) (fits.once count small)
+    | inr most ↦ λ version other has has_other.
+        absurd (fits.unused count most small version (ids_are_no_more newer events version (id_text (drawn actors.base count)) (unused count most small) has))
+  ];
   unused = λ count least small version has. fits.unused count least small version (ids_are_no_more newer events version _ (unused count least small) has);
 }
 
@@ -106,7 +116,9 @@ greater_horizon_fits events horizon greater actors up fits = record {
         means = old.means;
       };
   ids = fits.ids;
+  sidecar_ids = fits.sidecar_ids;
   apart = fits.apart;
+  once = fits.once;
   unused = fits.unused;
 }
 
@@ -115,9 +127,42 @@ nobody_fits events horizon base unused = record {
   transactions = λ t among. absurd (nothing_among t among);
   jobs = λ job among. absurd (nothing_among job among);
   ids = λ t among. absurd (nothing_among t among);
+  sidecar_ids = λ job among. absurd (nothing_among job among);
   apart = λ place other t u is. absurd (let no : ◌≡◌ {A = Option Transaction} None (Some t) = is in cc);
+  once = λ count small version other has. absurd (unused count small version has);
   unused = λ count least small. unused count small;
 }
   where
     nothing_among : {A : Type 0} (x : A) → Contains [] x → ⊥
     nothing_among x (place, within, is) = absurd (omega arith)
+
+-- ---- how a transaction begins and goes on
+
+pub begun_fits : BegunFits
+begun_fits events horizon id snapshot opened nowhere = record {
+  known = λ s is. (opened s is).known;
+  agrees = λ s is. (opened s is).agrees;
+  later = λ s is version has. absurd (nowhere version has);
+  once = λ version other has. absurd (nowhere version has);
+  has_answered = λ version is. absurd (let no : ◌≡◌ {A = Option ℕ} None (Some version) = is in cc);
+  staged = λ own is. absurd (let no : ◌≡◌ {A = Option OwnStaged} None (Some own) = is in cc);
+}
+
+pub put_stays_fit : PutStaysFit
+put_stays_fit events horizon t actions fits = record {
+  known = fits.known;
+  agrees = fits.agrees;
+  later = fits.later;
+  once = fits.once;
+  has_answered = fits.has_answered;
+  staged = λ own is. absurd (let no : ◌≡◌ {A = Option OwnStaged} None (Some own) = is in cc);
+}
+
+-- ids that are drawn apart differ
+in_wraps : (whole base a b p q : ℕ) → p + 2 ^ 128 * q ≡ base + a → p + 2 ^ 128 * whole ≡ base + b → a < 2 ^ 64 → b < 2 ^ 64 → a ≡ b
+in_wraps whole base a b p q one other small small_other = omega arith
+
+pub drawn_apart : (base a b : ℕ) → a < 2 ^ 64 → b < 2 ^ 64 → drawn base a ≡ drawn base b → a ≡ b
+drawn_apart base a b small small_other same =
+    in_wraps ((base + b) / 2 ^ 128) base a b (drawn base a) ((base + a) / 2 ^ 128) (mod-add-div (base + a) (2 ^ 128))
+    (ap (λ n. n + 2 ^ 128 * ((base + b) / 2 ^ 128)) same ∙ mod-add-div (base + b) (2 ^ 128)) small small_other

@@ -2,7 +2,7 @@
 use Rattle.std.proofs.Common.{◌≡◌, ℕ, ℤ, ◌⊎◌, inl, inr, List, [], ◌∷◌, ◌++◌, refl, sym, ap, subst, arith}
 use Rattle.dk_store.specs.Told.{Told, Made, Over, Deleted, Ratified, Forgotten}
 use Rattle.dk_paths.specs.Places.{Place, Commit_at, Classic, Part, V2, Compacted, Hint, Sidecar, Staged, Other, place_of}
-use Rattle.dk_lawful.specs.History.{RatifiedCommit, by_file, by_catalogue, after_made, history, next_version, table}
+use Rattle.dk_lawful.specs.History.{RatifiedCommit, by_file, by_catalogue, after_made, history, commits_of}
 use Rattle.dk_lawful.specs.Rules.{IsValidNext}
 use Rattle.dk_lawful.specs.Permits.{Permits, MayMake}
 use Rattle.dk_lawful.specs.Laws.{TableIsWhole}
@@ -13,12 +13,12 @@ use Rattle.dk_lawful.proofs.SoundOthers.{ratifies_itself, lawful_is_sound}
 
 abbrev pub GoesOnValidly : List Told → Told → Type 0
 GoesOnValidly events event = (history (event ∷ events) ≡ history events)
-    ⊎ ((commit : RatifiedCommit) × (history (event ∷ events) ≡ history events ++ commit ∷ []) × IsValidNext (table events) (next_version events) commit.actions)
+    ⊎ ((commit : RatifiedCommit) × (history (event ∷ events) ≡ history events ++ commit ∷ []) × IsValidNext (commits_of (history events)) commit.actions)
 
 made_validly : (events : List Told) (path bytes : List ℕ) (stamp horizon : ℤ) (place : Place) → place_of path ≡ place → Sound events horizon → MayMake events place bytes horizon
     → GoesOnValidly events (Made path bytes stamp)
 made_validly events path bytes stamp horizon (Commit_at version) is sound (inl may) =
-    inr (by_file may.0, adds_itself events path bytes stamp version is may, subst (λ v. IsValidNext (table events) v may.0) may.2.next may.2.valid)
+    inr (by_file may.0, adds_itself events path bytes stamp version is may, may.2.valid)
 made_validly events path bytes stamp horizon (Commit_at version) is sound (inr may) = inl (backfill_adds events path bytes stamp horizon version is may sound)
 made_validly events path bytes stamp horizon (Staged version id) is sound may = inl (ap (λ (place : Place). after_made (history events) place bytes) is)
 made_validly events path bytes stamp horizon (Classic version) is sound may = inl (ap (λ (place : Place). after_made (history events) place bytes) is)
@@ -29,12 +29,12 @@ made_validly events path bytes stamp horizon (Sidecar name) is sound may = inl (
 made_validly events path bytes stamp horizon Hint is sound may = inl (ap (λ (place : Place). after_made (history events) place bytes) is)
 made_validly events path bytes stamp horizon (Other other) is sound may = inl (ap (λ (place : Place). after_made (history events) place bytes) is)
 
-goes_on_validly : (events : List Told) (event : Told) (horizon : ℤ) → Sound events horizon → Permits events event horizon → GoesOnValidly events event
+pub goes_on_validly : (events : List Told) (event : Told) (horizon : ℤ) → Sound events horizon → Permits events event horizon → GoesOnValidly events event
 goes_on_validly events (Made path bytes stamp) horizon sound may = made_validly events path bytes stamp horizon (place_of path) refl sound may.1
 goes_on_validly events (Over path bytes stamp) horizon sound may = inl refl
 goes_on_validly events (Deleted path) horizon sound may = inl refl
 goes_on_validly events (Ratified version name) horizon sound may =
-    inr (by_catalogue may.actions, ratifies_itself events version name may, subst (λ v. IsValidNext (table events) v may.actions) may.next may.valid)
+    inr (by_catalogue may.actions, ratifies_itself events version name may, may.valid)
 goes_on_validly events (Forgotten upto) horizon sound may = inl refl
 
 goes_on_whole : (event : Told) (events : List Told) → AllWhole (history events) → GoesOnValidly events event → AllWhole (history (event ∷ events))

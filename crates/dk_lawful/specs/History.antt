@@ -69,12 +69,16 @@ table events = state_of (history events)
 abbrev pub next_version : List Told → ℕ
 next_version events = length (history events)
 
--- the state at a version, and the state before it
+-- the state at a version
 abbrev pub table_at : List Told → ℕ → TableState
 table_at events version = fold (take (version + 1) (commits_of (history events)))
 
+-- the commits before it, and that state
+abbrev pub commits_before : List Told → ℕ → List (List Action)
+commits_before events version = take version (commits_of (history events))
+
 abbrev pub table_before : List Told → ℕ → TableState
-table_before events version = fold (take version (commits_of (history events)))
+table_before events version = fold (commits_before events version)
 
 -- a state of a table that has begun
 pub record HasHeads (state : TableState) : Type 0 where

@@ -5,7 +5,7 @@ use Rattle.std.specs.Str.{bytes_eq}
 use Rattle.dk_model.specs.declared.action.Action.{Action}
 use Rattle.dk_model.specs.declared.action.Action.TheVariants as action
 use Rattle.dk_store.specs.Told.{Told}
-use Rattle.dk_lawful.specs.History.{RatifiedCommit, history}
+use Rattle.dk_lawful.specs.History.{RatifiedCommit, history, next_version}
 
 -- a commitInfo says the id
 abbrev pub is_id : List ℕ → Option (List ℕ) → Bool
@@ -30,6 +30,11 @@ StandsOnce events id = (version other : ℕ) → HasId (history events) version 
 
 abbrev pub StandsNowhere : List Told → List ℕ → Type 0
 StandsNowhere events id = (version : ℕ) → HasId (history events) version id → ⊥
+
+-- this version has it, and no other
+pub record StandsAt (events : List Told) (version : ℕ) (id : List ℕ) : Type 0 where
+  pub has : HasId (history events) version id
+  pub alone : (other : ℕ) → HasId (history events) other id → other ≡ version
 
 -- the event adds a commit with the id
 abbrev pub AddsId : List Told → Told → List ℕ → Type 0
@@ -58,3 +63,12 @@ IdsStay = (newer events : List Told) (version : ℕ) (id : List ℕ) → HasId (
 -- where no event adds the id, it stands just where it stood
 abbrev pub IdsAreNoMore : Type 0
 IdsAreNoMore = (newer events : List Told) (version : ℕ) (id : List ℕ) → AddNone newer events id → HasId (history (newer ++ events)) version id → HasId (history events) version id
+
+-- Under an id that stood nowhere a commit that is added to the history stands once, at its version.
+abbrev pub AddedStandsAt : Type 0
+AddedStandsAt = (events later : List Told) (commit : RatifiedCommit) (id : List ℕ) → StandsNowhere events id → history later ≡ history events ++ commit ∷ []
+    → SaysId id commit → StandsAt later (next_version events) id
+
+-- whatever events come then that add no commit with the id, it stands there alone for good
+abbrev pub StandsAtForGood : Type 0
+StandsAtForGood = (newer events : List Told) (version : ℕ) (id : List ℕ) → AddNone newer events id → StandsAt events version id → StandsAt (newer ++ events) version id

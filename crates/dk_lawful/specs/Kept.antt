@@ -1,5 +1,5 @@
 -- What a writing call leaves of the log and its history.
-use Rattle.std.specs.Prelude.{◌≡◌, ◌⊎◌, ℤ, List, [], ◌∷◌, ◌++◌, Option, Some, None, Result, Ok, Err}
+use Rattle.std.specs.Prelude.{◌≡◌, ◌⊎◌, ℤ, ◌≤ℤ◌, List, [], ◌∷◌, ◌++◌, Option, Some, None, Result, Ok, Err}
 use Rattle.dk_model.specs.declared.action.Action.{Action}
 use Rattle.dk_store.specs.declared.event.Put.{Put}
 use Rattle.dk_store.specs.declared.event.Put.TheVariants as puts
@@ -22,9 +22,23 @@ pub record StaysLawful (events later : List Told) : Type 0 where
   pub is : later ≡ newer ++ events
   pub lawful : (horizon : ℤ) → Lawful events horizon → Lawful later horizon
 
--- what a call promises that writes to the log
+-- what a call promises that writes to the log, and works for no cut
 abbrev pub KeepsLawful : Option (List Told) → Option (List Told) → Type 0
 KeepsLawful old new = IfBoth old new StaysLawful
+
+-- the horizon isn't below the cut of tombstones that a call works for, if it works for one
+abbrev pub ReachesCut : Option ℤ → ℤ → Type 0
+ReachesCut None horizon = Unit {0}
+ReachesCut (Some cut) horizon = cut ≤ℤ horizon
+
+-- The same for any call: what was lawful up to a horizon is lawful up to each that is at least that horizon and the cut.
+pub record StaysLawfulPast (cut : Option ℤ) (events later : List Told) : Type 0 where
+  pub newer : List Told
+  pub is : later ≡ newer ++ events
+  pub lawful : (horizon greater : ℤ) → horizon ≤ℤ greater → ReachesCut cut greater → Lawful events horizon → Lawful later greater
+
+abbrev pub KeepsLawfulPast : Option ℤ → Option (List Told) → Option (List Told) → Type 0
+KeepsLawfulPast cut old new = IfBoth old new (StaysLawfulPast cut)
 
 -- the history as it was, and with one commit more
 abbrev pub IsSameHistory : List Told → List Told → Type 0

@@ -17,12 +17,13 @@ use Rattle.dk_paths.specs.Staged.{staged_name}
 use Rattle.dk_store.specs.Standings.{standing, next_ratified}
 use Rattle.dk_lawful.specs.Present.{Holds, Present, IsLastPublished, versions_up_to, AtMostPublished, HasStaged, Available, Complete, HasAbove}
 use Rattle.dk_lawful.specs.History.{RatifiedCommit, history, next_version, commits_of, table, table_at, table_before, goes_on_by, HasHeads}
+use Rattle.dk_lawful.specs.Agree.{Agree}
 use Rattle.dk_lawful.specs.Permits.{IsNextCommit}
 use Rattle.dk_lawful.specs.Lawful.{Lawful}
 use Rattle.dk_lawful.specs.Floor.{FromFloor, HasBetween}
 use Rattle.dk_lawful.specs.Checkpoints.{Names}
 use Rattle.dk_lawful.specs.Managed.{is_managed}
-use Rattle.dk_lawful.specs.Rules.{is_written, first_broken, IsValidNext}
+use Rattle.dk_lawful.specs.Rules.{first_broken, KeepsRules}
 use Rattle.dk_lawful.specs.Kept.{IfBoth, KeepsLawful, HistoryAfterPut}
 
 -- what was before is lawful, so the log is lawful after each single event
@@ -151,7 +152,7 @@ CompleteIsPublished = (events : List Told) (horizon : ℤ) → Lawful events hor
 
 -- once a table is managed it stays so
 abbrev pub ManagementStays : Type 0
-ManagementStays = (before : TableState) (version : ℕ) (actions : List Action) → IsValidNext before version actions → is_managed before ≡ true → is_managed (steps before actions) ≡ true
+ManagementStays = (before : TableState) (last : Option ℤ) (version : ℕ) (actions : List Action) → KeepsRules before last version actions → is_managed before ≡ true → is_managed (steps before actions) ≡ true
 
 -- A put of the next commit's text leaves a lawful log lawful, whatever it answers.
 abbrev pub PutKeepsLawful : Type 0
@@ -182,23 +183,21 @@ abbrev pub TakenAddsNothing : Type 0
 TakenAddsNothing = (path bytes : List ℕ) (events : List Told) (new : Option (List Told)) (result : Result Put StoreError)
     → IsSome (object events path) → PutsNew path bytes (Some events) result new → new ≡ Some events
 
--- a table that can be written isn't managed, and one of a writer version below 7 isn't either
-abbrev pub WrittenIsUnmanaged : Type 0
-WrittenIsUnmanaged = (state : TableState) → is_written state.protocol state.metadata ≡ true → is_managed state ≡ false
-
+-- a table of a writer version below 7 isn't managed
 abbrev pub LowWriterIsUnmanaged : Type 0
 LowWriterIsUnmanaged = (state : TableState) (protocol : Protocol) → state.protocol ≡ Some protocol → protocol.min_writer < 7 → is_managed state ≡ false
 
--- neither is one that a commit by these rules comes after
-abbrev pub GoesOnUnmanaged : Type 0
-GoesOnUnmanaged = (before : TableState) (version : ℕ) (actions : List Action) → IsValidNext before version actions → is_managed before ≡ false
-
 -- a feature that is in force stays so
 abbrev pub FeaturesStay : Type 0
-FeaturesStay = (before : TableState) (version : ℕ) (actions : List Action) (name : List ℕ) → IsValidNext before version actions
+FeaturesStay = (before : TableState) (last : Option ℤ) (version : ℕ) (actions : List Action) (name : List ℕ) → KeepsRules before last version actions
     → has_feature before.protocol name ≡ true → has_feature (steps before actions).protocol name ≡ true
 
 -- the rules look at no more of the state before than its protocol and its metadata
 abbrev pub RulesByHeads : Type 0
-RulesByHeads = (before other : TableState) (version : ℕ) (actions : List Action) → before.protocol ≡ other.protocol → before.metadata ≡ other.metadata
-    → first_broken before version actions ≡ first_broken other version actions
+RulesByHeads = (before other : TableState) (last : Option ℤ) (version : ℕ) (actions : List Action) → before.protocol ≡ other.protocol → before.metadata ≡ other.metadata
+    → first_broken before last version actions ≡ first_broken other last version actions
+
+-- so a state that agrees with that of the commits before has the same valid commits after these
+abbrev pub AgreeingHaveSameRules : Type 0
+AgreeingHaveSameRules = (state whole : TableState) (horizon : ℤ) (last : Option ℤ) (version : ℕ) (actions : List Action) → Agree state whole horizon
+    → first_broken state last version actions ≡ first_broken whole last version actions

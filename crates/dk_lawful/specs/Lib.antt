@@ -18,6 +18,7 @@ pub mod Laws
 pub mod Lawful
 pub mod Managed
 pub mod MoreExamples
+pub mod Openable
 pub mod Permits
 pub mod Present
 pub mod RowExample
@@ -25,3 +26,7 @@ pub mod Rules
 pub mod Segments
 pub mod SegmentLaws
 pub mod Shares
+pub mod SoFar
+pub mod Timestamps
+pub mod Transacted
+pub mod Written

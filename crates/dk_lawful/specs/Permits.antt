@@ -21,7 +21,7 @@ use Rattle.dk_lawful.specs.Checkpoints.{Top, TopMeans, SidesMean, IsShare, Names
 pub record IsNextCommit (events : List Told) (version : ℕ) (actions : List Action) : Type 0 where
   pub next : version ≡ next_version events
   pub by_file : is_managed (table events) ≡ false
-  pub valid : IsValidNext (table events) version actions
+  pub valid : IsValidNext (commits_of (history events)) actions
 
 -- the bytes are the text of such a commit
 abbrev pub AddsCommit : List Told → ℕ → List ℕ → Type 0
@@ -39,7 +39,7 @@ pub record RatifiesCommit (events : List Told) (version : ℕ) (name : List ℕ)
   pub staged : Holds events (Staged version id) bytes
   pub actions : List Action
   pub means : commit_of bytes ≡ Some actions
-  pub valid : IsValidNext (table events) version actions
+  pub valid : IsValidNext (commits_of (history events)) actions
 
 -- the version is one above the last published one, stands ratified, and the bytes are those of its staged commit
 pub record Backfills (events : List Told) (version : ℕ) (bytes : List ℕ) : Type 0 where

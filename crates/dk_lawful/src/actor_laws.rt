@@ -1,15 +1,18 @@
 //! The law of those who are at work on a table. The function does nothing when it runs.
 
-ghost use Rattle.dk_lawful.specs.Actors.{GreaterHorizonFits, JobsStayFit, NobodyFits, OthersStayFit, TransactionsStayFit};
+ghost use Rattle.dk_lawful.specs.Actors.{BegunFits, GreaterHorizonFits, JobsStayFit, NobodyFits, OthersStayFit, PutStaysFit, TransactionsStayFit};
 
 /// What others do on a lawful log leaves a transaction fit, and a job that makes a checkpoint: what they opened still
 /// agrees with the history, an id stands once and after its snapshot, an answered version has it, and what was
 /// recorded still means what was written, where it stands. So all that are at work stay fit, also at a greater horizon,
-/// and nobody being at work is a start.
+/// and nobody being at work is a start. A transaction that begins with what was opened and an id that stands nowhere is fit, and stays so
+/// when actions are put to it.
 pub fn others_stay_fit()
     ensures transactions { TransactionsStayFit }
     ensures jobs { JobsStayFit }
     ensures all { OthersStayFit }
     ensures horizon { GreaterHorizonFits }
     ensures start { NobodyFits }
+    ensures begun { BegunFits }
+    ensures put { PutStaysFit }
 {}

@@ -2,11 +2,13 @@
 
 ghost use Rattle.std.specs.Prelude.{[], codes, pos, ◌++◌, ◌∷◌, ◌≡◌, ℤ};
 ghost use Rattle.dk_lawful.specs.BrokenRules.{appended, applying_text, informing_text, removing_text, settling_text, sidecar_text};
-ghost use Rattle.dk_lawful.specs.Calls.{DeleteKeepsLawful, ForgetKeepsLawful, PutNewKeepsLawful, PutOverKeepsLawful, RatifyKeepsLawful};
+ghost use Rattle.dk_lawful.specs.Calls.{DeleteKeepsLawful, ForgetKeepsLawful, KeepsLawfulOnwards, NoCutIsSame, PutNewKeepsLawful, PutOverKeepsLawful, RatifyKeepsLawful, SameIsPastEach};
 ghost use Rattle.dk_lawful.specs.Example.{ExampleHistory, ExampleIsLawful, IsForbidden, example, first_text, listing_text, managed_actions, managed_text, ratifying, second_actions, second_text, shrinking_text, staging, upgrading_text};
 ghost use Rattle.dk_lawful.specs.History.{by_catalogue, by_file, history};
 ghost use Rattle.dk_lawful.specs.Lawful.{Lawful};
-ghost use Rattle.dk_lawful.specs.Laws.{CommitsStay, CompleteIsPublished, EachCameItsWay, FeaturesStay, FilesStay, FloorIsUpward, GoesOnUnmanaged, GreaterHorizonIsLawful, HistoryGrows, KeptFromFloor, LastIsAvailable, LastIsFromFloor, LastIsPublished, LastPublishedIsOne, LogShowsHistory, LowWriterIsUnmanaged, ManagementStays, NeededStays, NextIsFree, NextIsRatifiedNext, NoneBeyondLast, OneAtATime, PrefixesAreLawful, PublishedStays, PutAddsCommit, PutKeepsLawful, PutLeavesFloor, RatifiedIsManaged, RatifiedStays, ReadLogIsHistory, RulesByHeads, SidecarsStay, StagedCommitIsHistory, StandingCommitIsHistory, TableIsWhole, TakenAddsNothing, UnpublishedIsStaged, WholeLogIsOne, WrittenIsUnmanaged};
+ghost use Rattle.dk_lawful.specs.Laws.{AgreeingHaveSameRules, CommitsStay, CompleteIsPublished, EachCameItsWay, FeaturesStay, FilesStay, FloorIsUpward, GreaterHorizonIsLawful, HistoryGrows, KeptFromFloor, LastIsAvailable, LastIsFromFloor, LastIsPublished, LastPublishedIsOne, LogShowsHistory, LowWriterIsUnmanaged, ManagementStays, NeededStays, NextIsFree, NextIsRatifiedNext, NoneBeyondLast, OneAtATime, PrefixesAreLawful, PublishedStays, PutAddsCommit, PutKeepsLawful, PutLeavesFloor, RatifiedIsManaged, RatifiedStays, ReadLogIsHistory, RulesByHeads, SidecarsStay, StagedCommitIsHistory, StandingCommitIsHistory, TableIsWhole, TakenAddsNothing, UnpublishedIsStaged, WholeLogIsOne};
+ghost use Rattle.dk_lawful.specs.SoFar.{ReadSoFar, RulesSoFar, WrittenHasNeither};
+ghost use Rattle.dk_lawful.specs.Transacted.{TransactedPlainly};
 ghost use Rattle.dk_lawful.specs.MoreExamples.{IsLawfulAfter, cleaning, compacting, dropping, forgetting, hinting, staged_event, storing};
 ghost use Rattle.dk_paths.specs.Names.{commit_path};
 ghost use Rattle.dk_paths.specs.Places.{Compacted, Staged, place_path};
@@ -73,36 +75,48 @@ pub fn ratified_stays()
     ensures management { ManagementStays }
 {}
 
-/// What the rules of a commit look at, and that a feature in force stays so (Delta Lake's PROTOCOL.md, "Protocol Evolution").
+/// What the rules of a commit look at, and that a feature in force stays so (Delta Lake's PROTOCOL.md, "Protocol Evolution"): states
+/// that agree have the same valid commits, given the commits before. The rules permit tables whose commits say their time and
+/// tables that a catalogue manages, which this program refuses by name so far: where neither is asked for, the rules that it tests
+/// are these.
 pub fn rules_of_a_commit()
     ensures heads { RulesByHeads }
+    ensures agreeing { AgreeingHaveSameRules }
     ensures features { FeaturesStay }
+
+    // what is built so far
+    ensures neither { WrittenHasNeither }
+    ensures so_far { RulesSoFar }
+    ensures read { ReadSoFar }
+    ensures plainly { TransactedPlainly }
 {}
 
 /// One put of a commit's text at the path of the next version leaves a lawful log lawful, and adds exactly that
 /// commit to the history, or nothing, as the answer says. Where something stands at the path nothing is added, and
-/// at the path of the next version nothing stands. A table that can be written goes on by such files (Delta Lake's
+/// at the path of the next version nothing stands. A table of a writer version below 7 goes on by such files (Delta Lake's
 /// PROTOCOL.md, "Delta Log Entries", "Catalog-managed tables").
 pub fn next_commit_is_added()
     ensures lawful { PutKeepsLawful }
     ensures adds { PutAddsCommit }
     ensures floor { PutLeavesFloor }
     ensures free { NextIsFree }
-    ensures unmanaged { WrittenIsUnmanaged }
     ensures low { LowWriterIsUnmanaged }
-    ensures goes_on { GoesOnUnmanaged }
     ensures taken { TakenAddsNothing }
 {}
 
 /// Each writing call of a store whose event is permitted leaves a lawful log lawful, with the old events as they were,
 /// whatever it answers: also where it failed before or after its event, or left a beginning of an object that it was to
-/// write over.
+/// write over. What was lawful up to a horizon is so up to each that is at least that horizon and the cut of tombstones that the
+/// call works for; where it works for none, up to the same. So it is over calls one after another.
 pub fn calls_keep_the_law()
     ensures put_new { PutNewKeepsLawful }
     ensures put_over { PutOverKeepsLawful }
     ensures delete { DeleteKeepsLawful }
     ensures ratify { RatifyKeepsLawful }
     ensures forget { ForgetKeepsLawful }
+    ensures same { NoCutIsSame }
+    ensures past_each { SameIsPastEach }
+    ensures onwards { KeepsLawfulOnwards }
 {}
 
 /// A lawful log of two commits, and its history.

@@ -5,7 +5,7 @@
 mod actor_laws;
 mod checkpoint_laws;
 mod id_laws;
-mod laws;
+pub mod laws;
 mod segment;
 mod segment_laws;
 
@@ -16,9 +16,9 @@ pub use checkpoint_laws::{
 };
 pub use id_laws::ids_stand_once;
 pub use laws::{
-    calls_keep_the_law, example_goes_on, example_histories, example_is_lawful, forbidden_events,
-    history_only_grows, log_is_the_history, needed_stays, next_commit_is_added,
-    permitted_one_by_one, ratified_stays,
+    broken_rules, calls_keep_the_law, example_goes_on, example_histories, example_is_lawful,
+    forbidden_events, history_only_grows, log_is_the_history, needed_stays, next_commit_is_added,
+    permitted_one_by_one, ratified_stays, rules_of_a_commit,
 };
 pub use segment::{CheckpointRef, Checkpoints, Choice, Segment, Step, StepList};
-pub use segment_laws::segments_agree;
+pub use segment_laws::{segments_agree, versions_stay_kept};

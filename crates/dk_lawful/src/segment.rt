@@ -6,7 +6,7 @@ use dk_model::{Names, Text};
 use std::marker::Model;
 
 /// A checkpoint, by the whole paths of its objects (Delta Lake's PROTOCOL.md, "Checkpoints").
-#[derive(Debug, Drop)]
+#[derive(Drop)]
 pub enum CheckpointRef {
     /// In one object.
     Classic {
@@ -28,7 +28,7 @@ pub enum CheckpointRef {
 }
 
 /// Which checkpoints may be chosen.
-#[derive(Clone, Copy, Debug, PartialEq, Eq)]
+#[derive(Clone, Copy)]
 pub enum Checkpoints {
     /// None.
     No,
@@ -39,7 +39,7 @@ pub enum Checkpoints {
 }
 
 /// What may be chosen where a version can be read in more than one way.
-#[derive(Clone, Copy, Debug, PartialEq, Eq)]
+#[derive(Clone, Copy)]
 pub struct Choice {
     /// Which checkpoints may stand for the commits up to their version.
     pub checkpoints: Checkpoints,
@@ -51,7 +51,7 @@ pub struct Choice {
 }
 
 /// One object that a version is read from, by its whole path.
-#[derive(Debug, Drop)]
+#[derive(Drop)]
 pub enum Step {
     /// The commit of a version, published or staged.
     Commit { version: u64, path: Text },
@@ -60,7 +60,7 @@ pub enum Step {
 }
 
 /// A list of steps, which contracts see as the list itself.
-#[derive(Debug, Drop)]
+#[derive(Drop)]
 pub struct StepList {
     list: Vec<Step>,
 }
@@ -96,7 +96,7 @@ impl StepList {
 }
 
 /// What a version is read from: a checkpoint, or nothing, and the commits after it.
-#[derive(Debug, Drop)]
+#[derive(Drop)]
 pub struct Segment {
     /// The checkpoint that the steps go on from; without one they begin at version 0.
     pub base: Option<CheckpointRef>,

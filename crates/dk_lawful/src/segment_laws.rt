@@ -1,5 +1,6 @@
-//! Laws of what a version is read from. The function does nothing when it runs.
+//! Laws of what a version is read from. None of these functions does anything when it runs.
 
+ghost use Rattle.dk_lawful.specs.Openable.{CleanupLeavesFloor, EachFromFloorIsKept, OthersLeaveFloor, PlainIsByCommits, StandingPlacesStand};
 ghost use Rattle.dk_lawful.specs.SegmentLaws.{ReadAgrees, ReadWithoutBase, StandingStepMeans};
 ghost use Rattle.dk_pqmodel.specs.FileMeans.{MeansOneList};
 
@@ -11,4 +12,17 @@ pub fn segments_agree()
     ensures agrees { MeansOneList → ReadAgrees }
     ensures whole { ReadWithoutBase }
     ensures means { StandingStepMeans }
+{}
+
+/// On a lawful log each version of the history from the floor on can be opened, for every choice with the newest checkpoint: no
+/// commit is missing of what it is read from, and each sidecar that its checkpoint names stands. That a Parquet file means at most
+/// one list of rows is a premise, as it is of parts of checkpoints. A cleanup leaves a floor of at most the greater of the floor before
+/// and its cut, and whatever takes no commit, checkpoint or compacted file away leaves the floor (Delta Lake's PROTOCOL.md, "Metadata
+/// Cleanup"). Where neither a checkpoint nor a compacted file is chosen, a version is read from its commits alone.
+pub fn versions_stay_kept()
+    ensures kept { MeansOneList → EachFromFloorIsKept }
+    ensures cleanup { CleanupLeavesFloor }
+    ensures others { OthersLeaveFloor }
+    ensures plain { PlainIsByCommits }
+    ensures places { StandingPlacesStand }
 {}

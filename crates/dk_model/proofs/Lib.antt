@@ -12,3 +12,5 @@ pub mod ObjectsBack
 pub mod Utf8Text
 pub mod LinesBack
 pub mod Laid
+pub mod Contents
+pub mod NameSets

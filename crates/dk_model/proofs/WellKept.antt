@@ -2,11 +2,12 @@
 use Rattle.std.proofs.Common.{◌≡◌, ◌⊎◌, inl, inr, ℕ, ℤ, List, Option, Some, None, IfSome, Bool, true, false, refl, sym, ap, subst, cond, ◌∙◌, [], nat_cmp, Global}
 use Rattle.std.proofs.lemmas.Map.Text.{is_eq-slice_cmp}
 use Rattle.std.proofs.lemmas.Slice.Eq.{bytes_eq-Decides}
+use Rattle.std.specs.Option.{option_or}
 use Rattle.std.specs.FinMap.{get}
 use Rattle.std.specs.FinMap as map
 use Rattle.std.specs.Cmp.Lexicographic.{slice_cmp}
 use Rattle.dk_model.specs.State.{application_of, step, empty_state}
-use Rattle.dk_model.specs.Changes.{Change, live, gone, or_else, is_same_text, change_at, application_at}
+use Rattle.dk_model.specs.Changes.{Change, live, gone, is_same_text, change_at, application_at}
 use Rattle.dk_model.specs.Ranges.{IsWhole, IsProtocolInRange, IsMetadataInRange, IsAddInRange, IsApplicationInRange, IsInRange}
 use Rattle.dk_model.specs.WellKept.{IsWellKept, StaysWellKept}
 use Rattle.dk_model.specs.declared.action.Action.{Action}
@@ -109,7 +110,7 @@ metadata_after s (action.Sidecar x) k r = k.metadata
 files_after : (P : AddFile → Type 0) (s : TableState) (a : Action) (q : List ℕ) → IfSome (get s.files q) P → ((f : AddFile) → change_at q a ≡ Some (live f) → P f) → IfSome (get (step s a).files q) P
 files_after P s a q before made = subst (λ o. IfSome o P) (sym (get-files-step s a q)) (file_after P (change_at q a) (get s.files q) before made)
 
-application_after : (P : Application → Type 0) (given old : Option Application) → IfSome old P → ((a : Application) → given ≡ Some a → P a) → IfSome (or_else given old) P
+application_after : (P : Application → Type 0) (given old : Option Application) → IfSome old P → ((a : Application) → given ≡ Some a → P a) → IfSome (option_or given old) P
 application_after P None old h new = h
 application_after P (Some a) old h new = new a refl
 

@@ -22,3 +22,6 @@ pub mod ReadBack
 pub mod LineFaults
 pub mod Kinds
 pub mod Settings
+pub mod Contents
+pub mod NameSets
+pub mod Rows

@@ -4,7 +4,7 @@ use crate::pairs::Pairs;
 use crate::text::{Names, Text};
 
 /// The versions and features that a reader and a writer of the table must have ("Protocol Evolution").
-#[derive(Debug, Drop)]
+#[derive(Drop)]
 pub struct Protocol {
     /// The least version of a reader, from 0 to 2,147,483,647.
     pub min_reader: u32,
@@ -17,7 +17,7 @@ pub struct Protocol {
 }
 
 /// What a table is called, and how its data are laid out ("Change Metadata").
-#[derive(Debug, Drop)]
+#[derive(Drop)]
 pub struct Metadata {
     /// The table's own identifier.
     pub id: Text,
@@ -37,7 +37,7 @@ pub struct Metadata {
 }
 
 /// A data file that is part of the table ("Add File and Remove File").
-#[derive(Debug, Drop)]
+#[derive(Drop)]
 pub struct AddFile {
     /// Where the file lies, relative to the table's folder.
     pub path: Text,
@@ -60,7 +60,7 @@ pub struct AddFile {
 }
 
 /// A data file that is no longer part of the table ("Add File and Remove File").
-#[derive(Debug, Drop)]
+#[derive(Drop)]
 pub struct RemoveFile {
     /// Where the file lies, relative to the table's folder.
     pub path: Text,
@@ -71,7 +71,7 @@ pub struct RemoveFile {
 }
 
 /// The last version of an application's own that a commit has recorded ("Transaction Identifiers").
-#[derive(Debug, Drop)]
+#[derive(Drop)]
 pub struct Txn {
     /// The application, by a name of its own.
     pub app_id: Text,
@@ -82,7 +82,7 @@ pub struct Txn {
 }
 
 /// Settings that a writer or a feature of the table keeps under a name of its own ("Domain Metadata").
-#[derive(Debug, Drop)]
+#[derive(Drop)]
 pub struct Domain {
     pub domain: Text,
     /// The settings, in a form of the domain's own.
@@ -92,14 +92,14 @@ pub struct Domain {
 }
 
 /// The version that a V2 checkpoint is of ("Checkpoint Metadata").
-#[derive(Debug, Drop)]
+#[derive(Drop)]
 pub struct CheckpointMeta {
     /// From 0 to 9,223,372,036,854,775,807.
     pub version: u64,
 }
 
 /// An object that has file actions of a V2 checkpoint ("Sidecar File Information").
-#[derive(Debug, Drop)]
+#[derive(Drop)]
 pub struct SidecarRef {
     /// The object's name, or a path that ends in it.
     pub path: Text,
@@ -110,7 +110,7 @@ pub struct SidecarRef {
 }
 
 /// What the writer of a commit says of it, as far as it is read ("Commit Provenance Information").
-#[derive(Debug, Drop)]
+#[derive(Drop)]
 pub struct CommitInfo {
     /// When the commit was made, where commits carry their own time, in milliseconds since
     /// 1970-01-01T00:00:00Z.
@@ -120,7 +120,7 @@ pub struct CommitInfo {
 }
 
 /// One line of a commit or checkpoint: a change of the table, or what its writer says of it.
-#[derive(Debug, Drop)]
+#[derive(Drop)]
 pub enum Action {
     Protocol(Protocol),
     Metadata(Metadata),

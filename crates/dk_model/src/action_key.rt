@@ -4,7 +4,7 @@ ghost use Rattle.std.specs.Prelude.{◌≡◌};
 ghost use Rattle.dk_model.specs.ActionKeys.{all_keys, name_of};
 
 /// The key of an action in the JSON object of its line (Delta Lake's PROTOCOL.md, "Actions").
-#[derive(Clone, Copy, Debug, PartialEq, Eq)]
+#[derive(Clone, Copy)]
 pub enum ActionKey {
     Protocol,
     Metadata,

@@ -5,8 +5,8 @@ ghost use Rattle.std.specs.Prelude.{◌≡◌};
 use crate::action::Action;
 use std::marker::Model;
 
-/// The actions of one commit, in the order of their lines.
-#[derive(Debug, Drop)]
+/// The actions of one commit, in the order of their lines (Delta Lake's PROTOCOL.md, "Delta Log Entries").
+#[derive(Drop)]
 pub struct Commit {
     actions: Vec<Action>,
 }
@@ -21,12 +21,14 @@ impl Model for Commit {
 }
 
 impl Commit {
+    /// A commit of these actions. Takes no memory.
     pub fn new(actions: Vec<Action>) -> Commit
         ensures { result ≡ actions.items }
     {
         Commit { actions }
     }
 
+    /// The actions, in the order of their lines.
     pub fn as_slice(&self) -> &[Action]
         ensures { result.now ≡ self.now }
     {

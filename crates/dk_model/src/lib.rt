@@ -12,11 +12,11 @@ mod fault;
 mod kept;
 mod kind;
 pub mod laws;
+mod name_sets;
 mod pairs;
+mod rows;
 mod settings;
 mod state;
-#[cfg(test)]
-mod tests;
 mod text;
 mod text_map;
 
@@ -28,6 +28,7 @@ pub use action_key::ActionKey;
 pub use commit::Commit;
 pub use fault::LineFault;
 pub use kind::Kind;
+pub use name_sets::name_set;
 pub use pairs::Pairs;
 pub use state::{Application, TableState};
 pub use text::{Names, Text};

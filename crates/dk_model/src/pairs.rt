@@ -8,7 +8,7 @@ use std::alloc::Global;
 use std::marker::Model;
 
 /// Pairs of a key and an optional value, the keys distinct and in byte order.
-#[derive(Debug, Drop)]
+#[derive(Drop)]
 pub struct Pairs {
     list: Vec<(Text, Option<Text>)>,
 }
@@ -25,6 +25,7 @@ impl Model for Pairs {
 }
 
 impl Pairs {
+    /// These pairs, whose keys rise in byte order. Takes no memory.
     pub fn new(list: Vec<(Text, Option<Text>)>) -> Pairs
         requires { AreKeysRising list.items }
         ensures { result ≡ list.items }
@@ -41,6 +42,7 @@ impl Pairs {
         }
     }
 
+    /// The pairs, in the byte order of their keys.
     pub fn as_slice(&self) -> &[(Text, Option<Text>)]
         ensures value { result.now ≡ self.now }
         ensures rising { AreKeysRising self.now }

@@ -7,7 +7,7 @@ use crate::text_map::TextMap;
 use std::alloc::{AllocError, Global};
 
 /// What an application has recorded last.
-#[derive(Debug, Drop)]
+#[derive(Drop)]
 pub struct Application {
     /// The application's own count.
     pub version: i64,
@@ -51,7 +51,8 @@ impl TableState {
         }
     }
 
-    /// Makes the steps of a commit, in order. After an `Err` the state must not be used further.
+    /// Makes the steps of a commit, in order (Delta Lake's PROTOCOL.md, "Action Reconciliation"). `Err` says that memory was
+    /// wanted and not had; the state must not be used further then.
     pub fn apply(&mut self, alloc: Global, commit: &Commit) -> Result<(), AllocError>
         ensures { OnOk result (self.new ≡ steps self.old commit.now) }
     {
@@ -61,8 +62,8 @@ impl TableState {
         Ok(())
     }
 
-    /// Makes the steps of a commit that is given up, in order, and copies none of its texts but the
-    /// paths. After an `Err` the state must not be used further.
+    /// Makes the steps of a commit that is given up, in order, and copies none of its texts but the paths of its adds. `Err`
+    /// says that memory was wanted and not had; the state must not be used further then.
     pub fn absorb(&mut self, alloc: Global, commit: Commit) -> Result<(), AllocError>
         ensures { OnOk result (self.new ≡ steps self.old commit) }
     {
@@ -72,7 +73,7 @@ impl TableState {
         Ok(())
     }
 
-    /// Makes the step of one action. After an `Err` the state must not be used further.
+    /// Makes the step of one action. `Err` says that memory was wanted and not had; the state must not be used further then.
     pub fn take(&mut self, alloc: Global, action: Action) -> Result<(), AllocError>
         ensures { OnOk result (self.new ≡ step self.old action) }
     {

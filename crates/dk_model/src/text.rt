@@ -20,13 +20,14 @@ impl Model for Text {
 }
 
 impl Text {
+    /// The text of a string, with no copy.
     pub fn new(text: String) -> Text
         ensures { result ≡ string_bytes text }
     {
         Text { string: text }
     }
 
-    /// A text of the same bytes.
+    /// A text of the same bytes. `Err` says that memory for them was wanted and not had.
     pub fn from_str(alloc: Global, text: &str) -> Result<Text, AllocError>
         ensures { IfOk result (λ t. t ≡ text.now) }
     {
@@ -34,6 +35,7 @@ impl Text {
         Ok(Text { string })
     }
 
+    /// The text, borrowed.
     pub fn as_str(&self) -> &str
         ensures { result.now ≡ self.now }
     {
@@ -63,12 +65,14 @@ impl Model for Names {
 }
 
 impl Names {
+    /// The list of these texts, in their order. Takes no memory.
     pub fn new(list: Vec<Text>) -> Names
         ensures { result ≡ list.items }
     {
         Names { list }
     }
 
+    /// The texts, in their order.
     pub fn as_slice(&self) -> &[Text]
         ensures { result.now ≡ self.now }
     {

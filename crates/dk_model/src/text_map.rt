@@ -31,6 +31,7 @@ impl<V> Model for TextMap<V> {
 }
 
 impl<V> TextMap<V> {
+    /// A map with no keys. Takes no memory.
     pub fn new(alloc: Global) -> TextMap<V>
         ensures { result ≡ map.empty }
     {
@@ -46,18 +47,21 @@ impl<V> TextMap<V> {
         self.tree.len()
     }
 
+    /// Whether there is no key.
     pub fn is_empty(&self) -> bool
         ensures { result ≡ (map.len self.now == 0) }
     {
         self.len() == 0
     }
 
+    /// The value of a key, where it is there.
     pub fn get(&self, key: &str) -> Option<&V>
         ensures { option_copied result ≡ map.get self.now key.now }
     {
         self.tree.get(key)
     }
 
+    /// Whether the key is there.
     pub fn contains(&self, key: &str) -> bool
         ensures { result ≡ map.contains_key self.now key.now }
     {

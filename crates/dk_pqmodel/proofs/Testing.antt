@@ -1,5 +1,5 @@
 -- Steps of the loops that test the rules of a schema.
-use Rattle.std.proofs.Common.{◌≡◌, ℕ, ◌+◌, ◌<◌, ◌≤◌, [], true, false, ◌&&◌, ◌||◌, ◌==◌, ◌∷◌, List, length, refl}
+use Rattle.std.proofs.Common.{◌≡◌, ℕ, ◌≤◌, [], true, false, ◌==◌, ◌∷◌, List, length, refl}
 use Rattle.dk_pqmodel.specs.NodeView.{fields_of}
 use Rattle.dk_pqmodel.specs.Schema.{has_fields}
 use Rattle.dk_pqmodel.specs.declared.node.Node.{Node}

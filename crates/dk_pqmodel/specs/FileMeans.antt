@@ -1,5 +1,5 @@
 -- What a Parquet file means: the rows that it holds of wanted fields, from the rows to the bytes.
-use Rattle.std.specs.Prelude.{◌≡◌, ◌+◌, ℕ, Bool, if◌then◌else◌, pos, Option, Some, None, unwrap_or, List, [], ◌∷◌, ◌++◌, length, flat_map, Contains}
+use Rattle.std.specs.Prelude.{◌≡◌, ◌+◌, ◌⊎◌, ℕ, Bool, if◌then◌else◌, pos, Option, Some, None, unwrap_or, List, [], ◌∷◌, ◌++◌, length, flat_map, Contains}
 use Rattle.dk_pqmodel.specs.Shape.{Fields, chars}
 use Rattle.dk_pqmodel.specs.Datum.{Value, Cells, no_cells, one_cell, Column, appended}
 use Rattle.dk_pqmodel.specs.Fits.{AreTriplesOf}
@@ -25,11 +25,9 @@ abbrev mutual
   columns_of no_plans r d = []
   columns_of (one_plan p ps) r d = columns_in p r d ++ columns_of ps r d
 
--- Pages of the chunk: they stand one behind another, from the dictionary page on if there is one, and end before the footer. They have
--- as many values as the chunk says, and these are their triples.
-pub record HasTriples (before : List ℕ) (column : ColumnAt) (chunk : Chunk) (triples : Column) : Type 0 where
-  pub plain : chunk.codec ≡ pos 0
-  pub typed : chunk.physical ≡ physical_type column.kind
+-- Pages of the chunk: they stand one behind another, from the dictionary page on if there is one, and end before the footer. These are
+-- their triples.
+pub record HasPages (before : List ℕ) (column : ColumnAt) (chunk : Chunk) (triples : Column) : Type 0 where
   pub front : List ℕ
   pub first : List ℕ
   pub pages : List (List ℕ × Column)
@@ -40,7 +38,14 @@ pub record HasTriples (before : List ℕ) (column : ColumnAt) (chunk : Chunk) (t
   pub entries : IsFirst column.kind dictionary first
   pub read : AreData column dictionary pages
   pub joined : triples ≡ flat_map (λ x. x.1) pages
+
+-- The chunk isn't compressed, is of the column's type, and has as many triples as it says, which are those of its pages. One of no
+-- triples has no page, and where it says that its pages begin isn't looked at.
+pub record HasTriples (before : List ℕ) (column : ColumnAt) (chunk : Chunk) (triples : Column) : Type 0 where
+  pub plain : chunk.codec ≡ pos 0
+  pub typed : chunk.physical ≡ physical_type column.kind
   pub count : length triples ≡ chunk.values
+  pub pages : (chunk.values ≡ 0) ⊎ HasPages before column chunk triples
 
 -- the group's chunk of the column's path has the triples
 abbrev pub HasColumn : List ℕ → RowGroup → ColumnAt → Column → Type 0
@@ -56,16 +61,16 @@ rows_in no_cells = 0
 rows_in (one_cell row rows) = 1 + rows_in rows
 
 -- a group's rows, as the file has them: as many as it says, and its columns are their triples
-pub record IsShare (before : List ℕ) (plans : Plans) (group : RowGroup) (rows : Cells) : Type 0 where
+pub record HasRows (before : List ℕ) (plans : Plans) (group : RowGroup) (rows : Cells) : Type 0 where
   pub columns : List Column
   pub held : HasColumns before group (columns_of plans 0 0) columns
   pub triples : AreTriplesOf (cuts_of plans) rows columns
   pub count : rows_in rows ≡ group.rows
 
-abbrev pub AreShares : List ℕ → Plans → List RowGroup → List Cells → Type 0
-AreShares before plans [] [] = Unit {0}
-AreShares before plans (group ∷ groups) (share ∷ shares) = IsShare before plans group share × AreShares before plans groups shares
-AreShares before plans groups shares = ⊥
+abbrev pub HaveRows : List ℕ → Plans → List RowGroup → List Cells → Type 0
+HaveRows before plans [] [] = Unit {0}
+HaveRows before plans (group ∷ groups) (share ∷ shares) = HasRows before plans group share × HaveRows before plans groups shares
+HaveRows before plans groups shares = ⊥
 
 abbrev pub all_rows : List Cells → Cells
 all_rows [] = no_cells
@@ -81,7 +86,7 @@ pub record FileMeans (wanted : Fields) (bytes : List ℕ) (rows : Cells) : Type 
   pub spelled : SpellsFooter part footer
   pub fitting : first_misfit wanted footer.fields ≡ None
   pub shares : List Cells
-  pub held : AreShares before (laid wanted footer.fields) footer.groups shares
+  pub held : HaveRows before (laid wanted footer.fields) footer.groups shares
   pub count : rows_in (all_rows shares) ≡ footer.rows
   pub widened : rows_widened (laid wanted footer.fields) (all_rows shares) ≡ Some rows
 

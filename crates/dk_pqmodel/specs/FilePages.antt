@@ -1,5 +1,5 @@
 -- What the pages of a chunk hold: the triples of a column (Apache Parquet, "Data Pages", "Encodings").
-use Rattle.std.specs.Prelude.{◌≡◌, ◌≤◌, ◌<◌, ◌+◌, ◌*◌, ◌^◌, ◌==◌, ◌⊎◌, ◌↔◌, ℕ, Bool, IsTrue, ℤ, pos, Option, Some, None, List, [], ◌∷◌, ◌++◌, length, map, filter_map, replicate, is_some, slice_get, option_and_then, All}
+use Rattle.std.specs.Prelude.{◌≡◌, ◌≤◌, ◌<◌, ◌+◌, ◌*◌, ◌^◌, ◌⊎◌, ◌↔◌, ℕ, Bool, IsTrue, ℤ, pos, Option, Some, None, List, [], ◌∷◌, ◌++◌, length, map, filter_map, replicate, is_some, slice_get, option_and_then, All}
 use Rattle.std.specs.Str.{is_utf8}
 use Rattle.dk_grammar.specs.Structs.{Listed, last_under}
 use Rattle.dk_grammar.specs.PageHeaders.{Part, numbers_in, inner_under, SpellsHeader}
@@ -83,12 +83,16 @@ InRuns kind values bytes = ⊥
 abbrev pub AreAtIndices : List Value → List ℕ → List Value → Type 0
 AreAtIndices dictionary indices values = map (λ index. slice_get dictionary index) indices ≡ map Some values
 
--- PLAIN_DICTIONARY, 2, and RLE_DICTIONARY, 8: a byte with the width, and runs of places in the dictionary. No value has no bytes.
+-- PLAIN_DICTIONARY, 2, and RLE_DICTIONARY, 8: a byte with the width, and runs of places in the dictionary. What bytes stand behind them
+-- is free.
+abbrev pub BehindWidth : List Value → List Value → List ℕ → Type 0
+BehindWidth dictionary values bytes =
+    (width : ℕ) × (runs : List ℕ) × (over : List ℕ) × (indices : List ℕ) × (width ≤ 32) × (bytes ≡ width ∷ (runs ++ over)) × AreFirst width (length indices) indices runs
+    × AreAtIndices dictionary indices values
+
+-- Where no value is meant, the byte may be left out.
 abbrev pub ByIndices : List Value → List Value → List ℕ → Type 0
-ByIndices dictionary values bytes =
-    (values ≡ [])
-    ⊎ ((width : ℕ) × (runs : List ℕ) × (over : List ℕ) × (indices : List ℕ) × (width ≤ 32) × (bytes ≡ width ∷ (runs ++ over)) × AreFirst width (length indices) indices runs
-    × AreAtIndices dictionary indices values)
+ByIndices dictionary values bytes = ((values ≡ []) × (bytes ≡ [])) ⊎ BehindWidth dictionary values bytes
 
 abbrev pub FromDictionary : Leaf → Option (List Value) → List Value → List ℕ → Type 0
 FromDictionary flag dictionary values bytes = ⊥

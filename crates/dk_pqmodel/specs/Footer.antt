@@ -1,5 +1,5 @@
 -- What the footer of a Parquet file says (parquet.thrift, FileMetaData), from the fields of its structs by id.
-use Rattle.std.specs.Prelude.{◌≡◌, ◌≤◌, ◌<◌, ◌==◌, ◌^◌, ◌+◌, ℕ, suc, max, nat_le, nat_lt, int_le, Bool, true, false, ◌&&◌, ◌||◌, not, if◌then◌else◌, IsTrue, ℤ, pos, negsuc, Option, Some, None, option_map, option_and_then, List, [], ◌∷◌, ◌++◌}
+use Rattle.std.specs.Prelude.{◌≡◌, ◌≤◌, ◌==◌, ◌^◌, ◌+◌, ℕ, suc, max, nat_le, nat_lt, int_le, Bool, true, false, ◌&&◌, ◌||◌, not, if◌then◌else◌, IsTrue, ℤ, pos, negsuc, Option, Some, None, option_map, option_and_then, List, [], ◌∷◌, ◌++◌}
 use Rattle.std.specs.Cmp.Lexicographic.{pointwise}
 use Rattle.std.specs.Str.{bytes_eq}
 use Rattle.dk_grammar.specs.Structs.{Listed, last_under}

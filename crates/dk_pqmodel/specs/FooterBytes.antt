@@ -1,5 +1,5 @@
 -- Which bytes are a footer, and where it stands in a Parquet file (Apache Parquet, "File format").
-use Rattle.std.specs.Prelude.{◌≡◌, ◌<◌, ◌^◌, ℕ, IsTrue, ℤ, pos, List, ◌++◌, length, codes}
+use Rattle.std.specs.Prelude.{◌≡◌, ◌<◌, ◌^◌, ℕ, IsTrue, pos, List, ◌++◌, length, codes}
 use Rattle.std.specs.Str.{is_utf8}
 use Rattle.dk_grammar.specs.Grammar.{SpellsBinary}
 use Rattle.dk_grammar.specs.Structs.{SpellsStruct, SpellsNumberField}

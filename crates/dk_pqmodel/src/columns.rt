@@ -6,7 +6,7 @@ ghost use Rattle.dk_pqmodel.specs.ColumnView.{columns_of, columns_in, column_of,
 use std::alloc::{AllocError, Global};
 
 /// What a leaf holds where it isn't null.
-#[derive(Debug, Drop)]
+#[derive(Drop)]
 pub enum Value {
     Flag(bool),
     Int(i64),
@@ -14,7 +14,7 @@ pub enum Value {
 }
 
 /// One entry of a column.
-#[derive(Debug, Drop)]
+#[derive(Drop)]
 pub struct Triple {
     /// How many lists go on here: 0 begins a row, the number k begins a later element of the k-th
     /// list around the leaf.
@@ -26,7 +26,7 @@ pub struct Triple {
 }
 
 /// The triples of rows: a column for each leaf of the schema, in the schema's order.
-#[derive(Debug, Drop)]
+#[derive(Drop)]
 pub struct Columns {
     pub leaves: Vec<Vec<Triple>>,
 }

@@ -11,8 +11,6 @@ mod node;
 mod row;
 mod rules;
 mod schema;
-#[cfg(test)]
-mod tests;
 
 pub use columns::{Columns, Triple, Value};
 pub use fault::PqFault;

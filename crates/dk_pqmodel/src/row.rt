@@ -6,7 +6,7 @@ ghost use Rattle.dk_pqmodel.specs.RowView.{datum_of, cells_of, row_of};
 use std::alloc::{AllocError, Global};
 
 /// What a row holds at one field.
-#[derive(Debug, Drop)]
+#[derive(Drop)]
 pub enum Cell {
     Null,
     Flag(bool),
@@ -20,7 +20,7 @@ pub enum Cell {
 }
 
 /// A row: a cell for each field at the top of its schema, in order.
-#[derive(Debug, Drop)]
+#[derive(Drop)]
 pub struct Row {
     pub cells: Vec<Cell>,
 }

@@ -1,6 +1,7 @@
-use Rattle.std.proofs.Common.{arith, rules, sym, subst, ◌∙◌, ◌+◌, drop}
+use Rattle.std.proofs.Common.{arith, rules, sym, subst, ◌+◌, drop}
 use Rattle.dk_conflicts.specs.Conflicts.{names_in}
-use Rattle.dk_conflicts.proofs.Gathered.{Gathers, one_more, names_some, names_none}
+use Rattle.dk_model.proofs.NameSets.{Gathers, one_more}
+use Rattle.dk_conflicts.proofs.NamesLeft.{names_some, names_none}
 use Rattle.dk_conflicts.proofs.claims.names_of.Goals as goal
 use Rattle.dk_conflicts.proofs.claims.names_of.Goals.{in-Some+in_ok-insert, in_default}
 

@@ -1,6 +1,6 @@
 use Rattle.std.proofs.Common.{◌≡◌, drop}
 use Rattle.std.specs.List.{list_any}
-use Rattle.dk_conflicts.specs.Conflicts.{removes_rows}
+use Rattle.dk_model.specs.Rows.{removes_rows}
 use Rattle.dk_conflicts.proofs.claims.remove_rows.Given as goal
 
 -- whether one of the actions that are left is such tells it of all

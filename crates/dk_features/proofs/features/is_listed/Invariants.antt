@@ -1,5 +1,5 @@
 use Rattle.std.proofs.Common.{◌≡◌, drop}
-use Rattle.dk_features.specs.Names.{is_one_of}
+use Rattle.dk_model.specs.NameSets.{is_one_of}
 use Rattle.dk_features.proofs.features.is_listed.Given as goal
 
 -- whether the name stands among those that are left tells it of all

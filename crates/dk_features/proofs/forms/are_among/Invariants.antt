@@ -1,6 +1,6 @@
 use Rattle.std.proofs.Common.{◌≡◌, drop}
 use Rattle.std.specs.List.{list_all}
-use Rattle.dk_features.specs.Sets.{has_name}
+use Rattle.dk_model.specs.NameSets.{has_name}
 use Rattle.dk_features.proofs.forms.are_among.Given as goal
 
 abbrev pub invariant-list : goal.invariant-list

@@ -1,6 +1,6 @@
 use Rattle.std.proofs.Common.{◌≡◌, drop}
 use Rattle.dk_features.specs.Forms.{is_each_once}
-use Rattle.dk_features.specs.Sets.{has_name}
+use Rattle.dk_model.specs.NameSets.{has_name}
 use Rattle.dk_features.proofs.Gathered.{each_new}
 use Rattle.dk_features.proofs.forms.is_each_once.Given as goal
 

@@ -16,3 +16,9 @@ returns-clause-horizon c = fit.greater_horizon_fits
 
 pub returns-clause-start : goal.returns-clause-start
 returns-clause-start c = fit.nobody_fits
+
+pub returns-clause-begun : goal.returns-clause-begun
+returns-clause-begun c = fit.begun_fits
+
+pub returns-clause-put : goal.returns-clause-put
+returns-clause-put c = fit.put_stays_fit
