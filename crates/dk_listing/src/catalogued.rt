@@ -7,7 +7,7 @@ use crate::newest::{later, newest_commit, newest_ratified};
 use dk_store::Ratification;
 
 /// What a listing of the log, its staged commits and the catalogue says. [`group`](crate::group) makes it.
-#[derive(Debug, Drop)]
+#[derive(Drop)]
 pub struct Catalogued {
     /// The entries of `_delta_log`, in the order of the listing.
     pub log: Vec<Named>,

@@ -11,7 +11,7 @@ use dk_store::Entry;
 use std::alloc::{AllocError, Global};
 
 /// The entries of the log's folder, each with what its name means.
-pub(crate) fn name_all(alloc: Global, entries: Vec<Entry>) -> Result<Vec<Named>, AllocError>
+pub(crate) fn read_log_names(alloc: Global, entries: Vec<Entry>) -> Result<Vec<Named>, AllocError>
     ensures named { IfOk result (λ found. map named_entry found.items ≡ map in_log (map listed entries.items)) }
     ensures small { IfOk result (λ found. All (λ named. version_in named.name < 2 ^ 63) found.items) }
 {
@@ -24,7 +24,10 @@ pub(crate) fn name_all(alloc: Global, entries: Vec<Entry>) -> Result<Vec<Named>,
 }
 
 /// The staged commits among the entries of their folder; names of another form are left out.
-pub(crate) fn stage_all(alloc: Global, entries: Vec<Entry>) -> Result<Vec<Staged>, AllocError>
+pub(crate) fn read_staged_names(
+    alloc: Global,
+    entries: Vec<Entry>,
+) -> Result<Vec<Staged>, AllocError>
     ensures { IfOk result (λ found. map staged_entry found.items ≡ filter_map in_staged (map listed entries.items)) }
 {
     let mut found = Vec::new(alloc);

@@ -15,6 +15,3 @@ mod sorting;
 pub use catalogued::Catalogued;
 pub use named::{Named, Staged};
 pub use sorting::group;
-
-#[cfg(test)]
-mod tests;

@@ -4,7 +4,7 @@ use dk_paths::LogName;
 use dk_store::Entry;
 
 /// An entry of the log's own folder.
-#[derive(Debug, Drop)]
+#[derive(Drop)]
 pub struct Named {
     /// What its name means.
     pub name: LogName,
@@ -12,7 +12,7 @@ pub struct Named {
 }
 
 /// An entry of the folder of staged commits.
-#[derive(Debug, Drop)]
+#[derive(Drop)]
 pub struct Staged {
     /// The version that the commit was staged for, from 0 to 9,223,372,036,854,775,807.
     pub version: u64,

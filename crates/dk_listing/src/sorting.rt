@@ -6,7 +6,7 @@ ghost use Rattle.dk_listing.specs.Entries.{in_log, in_staged, named_entry, stage
 
 use crate::catalogued::Catalogued;
 use crate::checkpoints::newest_checkpoint;
-use crate::grouping::{name_all, stage_all};
+use crate::grouping::{read_log_names, read_staged_names};
 use dk_store::{Entry, Ratification};
 use std::alloc::{AllocError, Global};
 
@@ -24,8 +24,8 @@ pub fn group(
     ensures staged { IfOk result (λ found. map staged_entry found.staged.items ≡ filter_map in_staged (map listed staged.items)) }
     ensures ratified { IfOk result (λ found. found.ratified ≡ ratified) }
 {
-    let log = name_all(alloc, log)?;
-    let staged = stage_all(alloc, staged)?;
+    let log = read_log_names(alloc, log)?;
+    let staged = read_staged_names(alloc, staged)?;
     let checkpoint = newest_checkpoint(alloc, &log)?;
     Ok(Catalogued {
         log,

@@ -18,7 +18,7 @@ use Rattle.dk_store.specs.declared.event.Ratification.{Ratification}
 use Rattle.dk_store.specs.Views.{ratification}
 use Rattle.dk_listing.specs.declared.named.Staged as entries
 use Rattle.dk_listing.specs.Presence.{lists_staged, name_at}
-use Rattle.dk_segment.specs.Known.{staged_cmp, HasStaged, HasNames, name_in}
+use Rattle.dk_segment.specs.CommitIndex.{staged_cmp, HasStaged, HasNames, name_in}
 
 one_same : (x w : ℕ) → is_eq (nat_cmp x w) ≡ (x == w)
 one_same x w = grind (arith, nat_tests)

@@ -5,7 +5,7 @@ use Rattle.dk_lawful.specs.declared.segment.Choice.{Choice}
 use Rattle.dk_lawful.specs.declared.segment.Segment.{Segment}
 use Rattle.dk_lawful.specs.Segments.{segment_of, first_gap}
 use Rattle.dk_engine.specs.declared.refusal.Refusal.{Refusal}
-use Rattle.dk_engine.specs.declared.refusal.Refusal.TheVariants.{Missing}
+use Rattle.dk_engine.specs.declared.refusal.Refusal.TheVariants.{Missing, OutOfMemory}
 
 abbrev pub unless_gap : Segment → Option (List ℕ) → Result Segment Refusal
 unless_gap segment None = Ok segment
@@ -14,3 +14,9 @@ unless_gap segment (Some path) = Err (Missing path)
 -- the segment of a version, where each commit of it is there; else the path of the first that isn't
 abbrev pub chosen : (Place → Bool) → (ℕ → Option (List ℕ)) → ℕ → Choice → Result Segment Refusal
 chosen present ratified version choice = unless_gap (segment_of present ratified version choice) (first_gap present ratified version choice)
+
+-- the only refusals: a commit is missing, or memory was refused
+abbrev pub ChooseRefuses : Refusal → Type 0
+ChooseRefuses (Missing path) = Unit {0}
+ChooseRefuses OutOfMemory = Unit {0}
+ChooseRefuses refusal = ⊥

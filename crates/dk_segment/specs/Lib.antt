@@ -1,3 +1,3 @@
 pub mod Chosen
-pub mod Known
+pub mod CommitIndex
 pub mod Walked

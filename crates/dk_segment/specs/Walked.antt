@@ -6,13 +6,13 @@ use Rattle.dk_lawful.specs.declared.segment.Step.{Step}
 use Rattle.dk_lawful.specs.Segments.{steps_from, gap_from}
 use Rattle.dk_engine.specs.declared.refusal.Refusal.{Refusal}
 use Rattle.dk_engine.specs.declared.refusal.Refusal.TheVariants.{Missing}
-use Rattle.dk_segment.specs.declared.known.Source.{Source}
-use Rattle.dk_segment.specs.declared.known.Source.TheVariants as sources
+use Rattle.dk_segment.specs.declared.commit_index.CommitObject.{CommitObject}
+use Rattle.dk_segment.specs.declared.commit_index.CommitObject.TheVariants as objects
 
--- the place that a version's commit is read from
-abbrev pub source_place : ℕ → Source → Place
-source_place version sources.Published = Commit_at version
-source_place version (sources.Staged id) = Staged version id
+-- the place of the object that a version is read from
+abbrev pub object_place : ℕ → CommitObject → Place
+object_place version objects.Published = Commit_at version
+object_place version (objects.Staged id) = Staged version id
 
 abbrev pub unless_absent : List Step → Option ℕ → Result (List Step) Refusal
 unless_absent steps None = Ok steps

@@ -1,12 +1,12 @@
 //! The choice of a segment.
-ghost use Rattle.std.specs.Prelude.{◌≡◌, ◌<◌, ◌≤◌, ◌+◌, ◌^◌, Err, false};
+ghost use Rattle.std.specs.Prelude.{◌≡◌, ◌<◌, ◌≤◌, ◌+◌, ◌^◌, IfErr, false};
 ghost use Rattle.dk_engine.specs.Answers.{Gives};
 ghost use Rattle.dk_listing.specs.Presence.{lists, ratified_name};
 ghost use Rattle.dk_lawful.specs.Segments.{commit_place};
-ghost use Rattle.dk_segment.specs.Chosen.{chosen};
+ghost use Rattle.dk_segment.specs.Chosen.{ChooseRefuses, chosen};
 ghost use Rattle.dk_segment.specs.Walked.{walked};
 
-use crate::known::know;
+use crate::commit_index::index_commits;
 use crate::walk::walk;
 use dk_engine::Refusal;
 use dk_lawful::{Choice, Segment, Step, StepList};
@@ -18,7 +18,8 @@ use std::alloc::Global;
 ///
 /// A commit that is both published and still ratified is read from the staged object where the choice asks for that and
 /// the object is listed, else from the published one. A ratified commit that isn't published is read from its staged
-/// object. Where neither is listed, the answer is `Missing` of the published commit's path.
+/// object. Beside want of memory it is refused as `Missing` alone, with the published commit's path of the first version
+/// where neither is listed.
 pub fn choose(
     alloc: Global,
     listing: &Catalogued,
@@ -27,10 +28,10 @@ pub fn choose(
 ) -> Result<Segment, Refusal>
     requires { version < 2 ^ 63 }
     ensures means { Gives (λ segment. segment) result (chosen (lists listing.now) (ratified_name listing.now) version choice.now) }
-    ensures store { result ≡ Err Refusal.Store → ⊥ }
+    ensures refusals { IfErr result ChooseRefuses }
 {
-    let known = know(alloc, listing)?;
-    match walk(alloc, &known, 0, version + 1, choice.staged_first) {
+    let commits = index_commits(alloc, listing)?;
+    match walk(alloc, &commits, 0, version + 1, choice.staged_first) {
         Ok(steps) => Ok(Segment {
             base: None,
             steps: StepList::new(steps),
@@ -39,8 +40,10 @@ pub fn choose(
     }
 }
 
-/// From where the commits of so many versions are read, from `first` on, each by itself: the published commit where it is
-/// listed, else the staged one where that stands ratified and is listed. `Missing` of the first version with neither.
+/// From where the commits of the `count` versions from `first` on are read, each by itself and in their order: the published
+/// commit where it is listed, else the staged one where that stands ratified and is listed (Delta Lake's PROTOCOL.md, "Delta
+/// Log Entries", "Catalog-managed tables"). Beside want of memory it is refused as `Missing` alone, with the path of the
+/// published commit of the first version with neither.
 pub fn find_commits(
     alloc: Global,
     listing: &Catalogued,
@@ -49,8 +52,8 @@ pub fn find_commits(
 ) -> Result<Vec<Step>, Refusal>
     requires { first + count ≤ 2 ^ 63 }
     ensures means { Gives (λ steps. steps.items) result (walked (commit_place (lists listing.now) (ratified_name listing.now) false) first count) }
-    ensures store { result ≡ Err Refusal.Store → ⊥ }
+    ensures refusals { IfErr result ChooseRefuses }
 {
-    let known = know(alloc, listing)?;
-    walk(alloc, &known, first, count, false)
+    let commits = index_commits(alloc, listing)?;
+    walk(alloc, &commits, first, count, false)
 }

@@ -5,10 +5,7 @@
 #![tactic(auto)]
 
 mod choosing;
-mod known;
+mod commit_index;
 mod walk;
 
 pub use choosing::{choose, find_commits};
-
-#[cfg(test)]
-mod tests;

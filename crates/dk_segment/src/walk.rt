@@ -1,37 +1,38 @@
 //! The walk over the versions, one by one.
-ghost use Rattle.std.specs.Prelude.{◌≡◌, ◌<◌, ◌≤◌, ◌+◌, ◌^◌, Err, IfOk, string_bytes};
+ghost use Rattle.std.specs.Prelude.{◌≡◌, ◌<◌, ◌≤◌, ◌+◌, ◌^◌, IfErr, IfOk, string_bytes};
 ghost use Rattle.dk_paths.specs.Names.{commit_path};
 ghost use Rattle.dk_paths.specs.Places.{place_path};
 ghost use Rattle.dk_lawful.specs.declared.segment.Step.TheVariants as steps;
 ghost use Rattle.dk_lawful.specs.Segments.{commit_place};
 ghost use Rattle.dk_engine.specs.Answers.{Gives};
-ghost use Rattle.dk_segment.specs.Known.{has_name, has_place};
-ghost use Rattle.dk_segment.specs.Walked.{source_place, walked};
+ghost use Rattle.dk_segment.specs.Chosen.{ChooseRefuses};
+ghost use Rattle.dk_segment.specs.CommitIndex.{has_name, has_place};
+ghost use Rattle.dk_segment.specs.Walked.{object_place, walked};
 
-use crate::known::{Known, Source, find_source};
+use crate::commit_index::{CommitIndex, CommitObject, find_object};
 use dk_engine::Refusal;
 use dk_lawful::Step;
 use dk_model::Text;
 use dk_paths::{commit_path, staged_path};
 use std::alloc::{AllocError, Global};
 
-fn path_of(alloc: Global, version: u64, source: Source) -> Result<String, AllocError>
+fn path_of(alloc: Global, version: u64, object: CommitObject) -> Result<String, AllocError>
     requires { version < 2 ^ 63 }
-    ensures { IfOk result (λ path. string_bytes path ≡ place_path (source_place version source)) }
+    ensures { IfOk result (λ path. string_bytes path ≡ place_path (object_place version object)) }
 {
-    match source {
-        Source::Published => commit_path(alloc, version),
-        Source::Staged { id } => staged_path(alloc, version, id),
+    match object {
+        CommitObject::Published => commit_path(alloc, version),
+        CommitObject::Staged { id } => staged_path(alloc, version, id),
     }
 }
 
-fn step_of(alloc: Global, version: u64, source: Source) -> Result<Step, AllocError>
+fn step_of(alloc: Global, version: u64, object: CommitObject) -> Result<Step, AllocError>
     requires { version < 2 ^ 63 }
-    ensures { IfOk result (λ step. step ≡ steps.Commit version (place_path (source_place version source))) }
+    ensures { IfOk result (λ step. step ≡ steps.Commit version (place_path (object_place version object))) }
 {
     Ok(Step::Commit {
         version,
-        path: Text::new(path_of(alloc, version, source)?),
+        path: Text::new(path_of(alloc, version, object)?),
     })
 }
 
@@ -47,19 +48,19 @@ fn missing(alloc: Global, version: u64) -> Result<Refusal, AllocError>
 /// The steps of so many versions, from `first` on, or the first whose commit isn't there.
 pub(crate) fn walk(
     alloc: Global,
-    known: &Known<'_>,
+    commits: &CommitIndex<'_>,
     first: u64,
     count: u64,
     staged_first: bool,
 ) -> Result<Vec<Step>, Refusal>
     requires { first + count ≤ 2 ^ 63 }
-    ensures means { Gives (λ found. found.items) result (walked (commit_place (has_place known.now) (has_name known.now) staged_first) first count) }
-    ensures store { result ≡ Err Refusal.Store → ⊥ }
+    ensures means { Gives (λ found. found.items) result (walked (commit_place (has_place commits.now) (has_name commits.now) staged_first) first count) }
+    ensures refusals { IfErr result ChooseRefuses }
 {
     let mut found = Vec::new(alloc);
     for version in first..first + count {
-        match find_source(known, version, staged_first) {
-            Some(source) => found.push(step_of(alloc, version, source)?)?,
+        match find_object(commits, version, staged_first) {
+            Some(object) => found.push(step_of(alloc, version, object)?)?,
             None => return Err(missing(alloc, version)?),
         }
     }

@@ -1,6 +1,6 @@
 use Rattle.std.proofs.Common.{take}
-use Rattle.dk_segment.specs.Known.{HasStaged}
-use Rattle.dk_segment.proofs.known.staged_commits.Given as goal
+use Rattle.dk_segment.specs.CommitIndex.{HasStaged}
+use Rattle.dk_segment.proofs.commit_index.staged_commits.Given as goal
 
 abbrev pub invariant-loop-commit : goal.invariant-loop-commit
 invariant-loop-commit l = HasStaged l.set (take l.commit-index l.staged)

@@ -3,7 +3,7 @@ use Rattle.std.specs.Vec.Iter.{into_iter_items}
 use Rattle.dk_store.specs.Views.{listed}
 use Rattle.dk_listing.specs.Entries.{in_log, named_entry}
 use Rattle.dk_listing.specs.Newest.{version_in}
-use Rattle.dk_listing.proofs.grouping.name_all.Given as goal
+use Rattle.dk_listing.proofs.grouping.read_log_names.Given as goal
 
 -- what was found, then what is left, is the whole
 abbrev pub invariant-loop-entry : goal.invariant-loop-entry

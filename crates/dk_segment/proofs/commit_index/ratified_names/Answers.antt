@@ -4,10 +4,10 @@ use Rattle.std.specs.Prelude.{ℕ, List, None, is_some}
 use Rattle.std.specs.Borrow.{Bor}
 use Rattle.std.specs.Ordering.{nat_cmp}
 use Rattle.std.specs.BTreeMap.{BTreeMap, get}
-use Rattle.dk_segment.specs.Known.{HasNames}
+use Rattle.dk_segment.specs.CommitIndex.{HasNames}
 use Rattle.dk_segment.proofs.Sets.{names_more, names_same}
-use Rattle.dk_segment.proofs.known.ratified_names.Goals as goal
-use Rattle.dk_segment.proofs.known.ratified_names.Goals.{then-not-contains_key+in_ok-insert, else-not-contains_key}
+use Rattle.dk_segment.proofs.commit_index.ratified_names.Goals as goal
+use Rattle.dk_segment.proofs.commit_index.ratified_names.Goals.{then-not-contains_key+in_ok-insert, else-not-contains_key}
 
 pub loop-ratification-preserved : goal.loop-ratification-preserved
 loop-ratification-preserved c = elim c.if-not-contains_key.branch [

@@ -12,7 +12,7 @@ use Rattle.dk_listing.specs.declared.catalogued.Catalogued.{Catalogued}
 use Rattle.dk_listing.specs.declared.named.Named.{Named}
 use Rattle.dk_listing.specs.declared.named.Staged as entries
 use Rattle.dk_listing.specs.Presence.{lists_in_log, lists_staged, name_at}
-use Rattle.dk_segment.specs.declared.known.Known.{Known}
+use Rattle.dk_segment.specs.declared.commit_index.CommitIndex.{CommitIndex}
 
 -- by version, then by UUID
 abbrev pub staged_cmp : ℕ × ℕ → ℕ × ℕ → Ordering
@@ -34,17 +34,17 @@ name_in names version = option_map (λ name. name.now) (get nat_cmp names versio
 abbrev pub HasNames : BTreeMap ℕ (Bor (List ℕ)) → List Ratification → Type 0
 HasNames names ratified = (version : ℕ) → name_in names version ≡ name_at (map ratification ratified) version
 
--- the places that are known to have an object
-abbrev pub has_place : Known → Place → Bool
-has_place known (Commit_at version) = contains nat_cmp known.published version
-has_place known (Staged version id) = contains staged_cmp known.staged (version, id)
-has_place known _ = false
+-- the places that are listed with an object
+abbrev pub has_place : CommitIndex → Place → Bool
+has_place commits (Commit_at version) = contains nat_cmp commits.published version
+has_place commits (Staged version id) = contains staged_cmp commits.staged (version, id)
+has_place commits _ = false
 
-abbrev pub has_name : Known → ℕ → Option (List ℕ)
-has_name known version = name_in known.ratified version
+abbrev pub has_name : CommitIndex → ℕ → Option (List ℕ)
+has_name commits version = name_in commits.ratified version
 
 -- all of it is that of the listing
-pub record Knows (known : Known) (listing : Catalogued) : Type 0 where
-  pub published : HasCommits known.published listing.log.items
-  pub staged : HasStaged known.staged listing.staged.items
-  pub ratified : HasNames known.ratified listing.ratified.items
+pub record IsIndexOf (commits : CommitIndex) (listing : Catalogued) : Type 0 where
+  pub published : HasCommits commits.published listing.log.items
+  pub staged : HasStaged commits.staged listing.staged.items
+  pub ratified : HasNames commits.ratified listing.ratified.items

@@ -1,8 +1,8 @@
-//! What a listing says of commits, for look-ups by version.
+//! The commits of a listing, for look-ups by version.
 ghost use Rattle.std.specs.Prelude.{◌≡◌, IfOk, option_map};
 ghost use Rattle.dk_lawful.specs.Segments.{commit_place, published_at, staged_at};
-ghost use Rattle.dk_segment.specs.Known.{HasCommits, HasNames, HasStaged, Knows, has_name, has_place};
-ghost use Rattle.dk_segment.specs.Walked.{source_place};
+ghost use Rattle.dk_segment.specs.CommitIndex.{HasCommits, HasNames, HasStaged, IsIndexOf, has_name, has_place};
+ghost use Rattle.dk_segment.specs.Walked.{object_place};
 
 use dk_listing::{Catalogued, Named, Staged};
 use dk_paths::{LogName, read_staged};
@@ -10,9 +10,9 @@ use dk_store::Ratification;
 use std::alloc::{AllocError, Global};
 use std::collections::{BTreeMap, BTreeSet};
 
-/// What a listing says of commits.
+/// The commits of a listing by their versions.
 #[derive(Drop)]
-pub(crate) struct Known<'a> {
+pub(crate) struct CommitIndex<'a> {
     /// The versions with a commit in the log's own folder.
     published: BTreeSet<u64>,
     /// The staged commits, each by its version and UUID.
@@ -21,9 +21,9 @@ pub(crate) struct Known<'a> {
     ratified: BTreeMap<u64, &'a str>,
 }
 
-/// Where the commit of a version is read from.
-#[derive(Clone, Copy, Debug, PartialEq, Eq)]
-pub(crate) enum Source {
+/// The object that a commit is read from.
+#[derive(Clone, Copy)]
+pub(crate) enum CommitObject {
     Published,
     Staged { id: u128 },
 }
@@ -66,50 +66,57 @@ fn ratified_names<'a>(
     Ok(names)
 }
 
-/// What this listing says.
-pub(crate) fn know<'a>(alloc: Global, listing: &'a Catalogued) -> Result<Known<'a>, AllocError>
-    ensures { IfOk result (λ known. Knows known listing.now) }
+/// The commits of this listing.
+pub(crate) fn index_commits<'a>(
+    alloc: Global,
+    listing: &'a Catalogued,
+) -> Result<CommitIndex<'a>, AllocError>
+    ensures { IfOk result (λ commits. IsIndexOf commits listing.now) }
 {
-    Ok(Known {
+    Ok(CommitIndex {
         published: published_versions(alloc, &listing.log)?,
         staged: staged_commits(alloc, &listing.staged)?,
         ratified: ratified_names(alloc, &listing.ratified)?,
     })
 }
 
-fn published_source(known: &Known<'_>, version: u64) -> Option<Source>
-    ensures { option_map (source_place version) result ≡ published_at (has_place known.now) version }
+fn published_object(commits: &CommitIndex<'_>, version: u64) -> Option<CommitObject>
+    ensures { option_map (object_place version) result ≡ published_at (has_place commits.now) version }
 {
-    if known.published.contains(&version) {
-        Some(Source::Published)
+    if commits.published.contains(&version) {
+        Some(CommitObject::Published)
     } else {
         None
     }
 }
 
 /// The staged commit that stands ratified for a version, if it is listed.
-fn staged_source(known: &Known<'_>, version: u64) -> Option<Source>
-    ensures { option_map (source_place version) result ≡ staged_at (has_place known.now) (has_name known.now) version }
+fn staged_object(commits: &CommitIndex<'_>, version: u64) -> Option<CommitObject>
+    ensures { option_map (object_place version) result ≡ staged_at (has_place commits.now) (has_name commits.now) version }
 {
-    let Some(name) = known.ratified.get(&version) else {
+    let Some(name) = commits.ratified.get(&version) else {
         return None;
     };
     let Some((staged_for, id)) = read_staged(*name) else {
         return None;
     };
-    if staged_for == version && known.staged.contains(&(version, id)) {
-        Some(Source::Staged { id })
+    if staged_for == version && commits.staged.contains(&(version, id)) {
+        Some(CommitObject::Staged { id })
     } else {
         None
     }
 }
 
-/// Where the commit of a version is read from, if it is there.
-pub(crate) fn find_source(known: &Known<'_>, version: u64, staged_first: bool) -> Option<Source>
-    ensures { option_map (source_place version) result ≡ commit_place (has_place known.now) (has_name known.now) staged_first version }
+/// The object that the commit of a version is read from, if it is there.
+pub(crate) fn find_object(
+    commits: &CommitIndex<'_>,
+    version: u64,
+    staged_first: bool,
+) -> Option<CommitObject>
+    ensures { option_map (object_place version) result ≡ commit_place (has_place commits.now) (has_name commits.now) staged_first version }
 {
-    let published = published_source(known, version);
-    let staged = staged_source(known, version);
+    let published = published_object(commits, version);
+    let staged = staged_object(commits, version);
     if staged_first {
         staged.or(published)
     } else {

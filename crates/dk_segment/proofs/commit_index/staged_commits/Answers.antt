@@ -1,5 +1,5 @@
 use Rattle.dk_segment.proofs.Sets.{staged_more}
-use Rattle.dk_segment.proofs.known.staged_commits.Goals as goal
+use Rattle.dk_segment.proofs.commit_index.staged_commits.Goals as goal
 
 pub loop-commit-preserved : goal.loop-commit-preserved
 loop-commit-preserved c =

@@ -1,5 +1,0 @@
-use Rattle.std.proofs.Common.{◌<◌, ◌^◌, All}
-use Rattle.dk_listing.proofs.tests.ratifications.Given as goal
-
-abbrev pub invariant-loop-version : goal.invariant-loop-version
-invariant-loop-version l = All (λ r. r.version < 2 ^ 63) l.found.items
