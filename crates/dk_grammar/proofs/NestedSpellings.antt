@@ -4,8 +4,8 @@ use Rattle.std.proofs.lemmas.Bool.{and_parts, and_from}
 use Rattle.std.proofs.lemmas.List.{length-append}
 use Rattle.dk_grammar.specs.Thrift.{Front, number_at, bytes_at, binary_at, count_at, list_at, field_at, is_kind}
 use Rattle.dk_grammar.specs.Grammar.{SpellsNumber, SpellsField, SpellsList, Spelled}
-use Rattle.dk_grammar.specs.Passed.{Rest, behind, each, entry_passed, entries_passed, list_passed, map_passed, value_passed, field_passed, fields_passed, struct_passed, too_deep, element_passed, kind_of, passed_at}
-use Rattle.dk_grammar.specs.Nested.{Behind, Repeats, SpellsElements, SpellsEntries, SpellsMap, SpellsFieldValue, SpellsFields, SpellsStruct, SpellsElement, SpellsValue, Takes, PassesBy}
+use Rattle.dk_grammar.specs.Passed.{Rest, rest_of, each, entry_passed, entries_passed, list_passed, map_passed, value_passed, field_passed, fields_passed, struct_passed, too_deep, element_passed, kind_of, passed_at}
+use Rattle.dk_grammar.specs.Nested.{Behind, Repeats, SpellsElements, SpellsEntries, SpellsMap, SpellsFieldValue, SpellsAnyFields, SpellsAnyStruct, SpellsAnyElement, SpellsValue, Takes, PassesBy}
 use Rattle.dk_grammar.specs.declared.thrift.Field.{Field}
 use Rattle.dk_grammar.specs.declared.thrift.Field.TheVariants.{End, Next}
 use Rattle.dk_grammar.specs.declared.thrift.Kind.{Kind}
@@ -82,52 +82,52 @@ module _ (spells : Kind → List ℕ → Type 0) (pass : Kind → List ℕ → R
 
   -- the fields behind a header, where those behind it are known to be spelled
   field_spelled : (most : ℕ) (last : ℤ) (bytes rest : List ℕ) (field : Field) (after : List ℕ)
-      → ((id : ℤ) (more : List ℕ) → fields_passed pass most id more ≡ Ok rest → (n : ℕ) × Takes (SpellsFields spells n id) more rest)
-      → Spelled (SpellsField last) bytes field after → field_passed pass (fields_passed pass most) field after ≡ Ok rest → (n : ℕ) × Takes (SpellsFields spells n last) bytes rest
+      → ((id : ℤ) (more : List ℕ) → fields_passed pass most id more ≡ Ok rest → (n : ℕ) × Takes (SpellsAnyFields spells n id) more rest)
+      → Spelled (SpellsField last) bytes field after → field_passed pass (fields_passed pass most) field after ≡ Ok rest → (n : ℕ) × Takes (SpellsAnyFields spells n last) bytes rest
   field_spelled most last bytes rest End after go t e = (0, (t.0, t.1 ∙ ap (λ x. t.0 ++ x) (ok_is after rest e), t.2))
   field_spelled most last bytes rest (Next id kind) after go t e =
       let y = bound (value_passed pass (kind_of kind) after) (fields_passed pass most id) rest e in
       let u = go id y.0 y.2 in
-      let v = both (λ header. SpellsField last header (Next id kind)) (Behind (SpellsFieldValue spells (kind_of kind)) (SpellsFields spells u.0 id)) bytes after rest t
-      (both (SpellsFieldValue spells (kind_of kind)) (SpellsFields spells u.0 id) after y.0 rest (value_spelled (kind_of kind) after y.0 y.1) u.1) in
+      let v = both (λ header. SpellsField last header (Next id kind)) (Behind (SpellsFieldValue spells (kind_of kind)) (SpellsAnyFields spells u.0 id)) bytes after rest t
+      (both (SpellsFieldValue spells (kind_of kind)) (SpellsAnyFields spells u.0 id) after y.0 rest (value_spelled (kind_of kind) after y.0 y.1) u.1) in
       (suc u.0, (v.0, v.1, (id, (kind, v.2))))
 
-  fields_spelled : (most : ℕ) (last : ℤ) (bytes rest : List ℕ) → fields_passed pass most last bytes ≡ Ok rest → (n : ℕ) × Takes (SpellsFields spells n last) bytes rest
+  fields_spelled : (most : ℕ) (last : ℤ) (bytes rest : List ℕ) → fields_passed pass most last bytes ≡ Ok rest → (n : ℕ) × Takes (SpellsAnyFields spells n last) bytes rest
   fields_spelled zero last bytes rest h = absurd (short_is_not_ok rest h)
   fields_spelled (suc most) last bytes rest h =
       let x = bound (field_at last bytes) _ rest h in
       field_spelled most last bytes rest x.0.0 x.0.1 (λ id more e. fields_spelled most id more rest e) ((fields last).spelled bytes x.0.1 x.0.0 x.1) x.2
 
-  struct_spelled : IsSpelled (SpellsStruct spells) (struct_passed pass)
+  struct_spelled : IsSpelled (SpellsAnyStruct spells) (struct_passed pass)
   struct_spelled bytes rest h = let t = fields_spelled (length bytes) (pos 0) bytes rest h in (t.1.0, t.1.1, (t.0, t.1.2))
 
-behind_is : {A : Type 0} (front : Front A) (rest : List ℕ) → behind front ≡ Ok rest → (x : A) × (front ≡ Ok (x, rest))
-behind_is front rest h = let x = bound front _ rest h in (x.0.0, x.1 ∙ ap (λ more. ok (x.0.0, more)) (ok_is x.0.1 rest x.2))
+rest_of_is : {A : Type 0} (front : Front A) (rest : List ℕ) → rest_of front ≡ Ok rest → (x : A) × (front ≡ Ok (x, rest))
+rest_of_is front rest h = let x = bound front _ rest h in (x.0.0, x.1 ∙ ap (λ more. ok (x.0.0, more)) (ok_is x.0.1 rest x.2))
 
-size_spelled : (n : ℕ) → IsSpelled (λ front. length front ≡ n) (λ bytes. behind (bytes_at n bytes))
-size_spelled n bytes rest h = let x = behind_is (bytes_at n bytes) rest h in let p = bytes_spelled n bytes x.0 rest x.1 in (x.0, p.1, p.0)
+size_spelled : (n : ℕ) → IsSpelled (λ front. length front ≡ n) (λ bytes. rest_of (bytes_at n bytes))
+size_spelled n bytes rest h = let x = rest_of_is (bytes_at n bytes) rest h in let p = bytes_spelled n bytes x.0 rest x.1 in (x.0, p.1, p.0)
 
 deep_is_not_ok : (bytes rest : List ℕ) → too_deep bytes ≡ ok rest → ⊥
 deep_is_not_ok [] rest h = cc
 deep_is_not_ok (b ∷ bs) rest h = cc
 
-element_spelled : (levels : ℕ) (kind : Kind) → IsSpelled (SpellsElement levels kind) (element_passed levels kind)
+element_spelled : (levels : ℕ) (kind : Kind) → IsSpelled (SpellsAnyElement levels kind) (element_passed levels kind)
 element_spelled levels kinds.Flag bytes rest h = size_spelled 1 bytes rest h
 element_spelled levels kinds.Byte bytes rest h = size_spelled 1 bytes rest h
-element_spelled levels kinds.Whole bytes rest h = let x = behind_is (number_at bytes) rest h in let t = numbers.spelled bytes rest x.0 x.1 in (t.0, t.1, (x.0, t.2))
+element_spelled levels kinds.Whole bytes rest h = let x = rest_of_is (number_at bytes) rest h in let t = numbers.spelled bytes rest x.0 x.1 in (t.0, t.1, (x.0, t.2))
 element_spelled levels kinds.Double bytes rest h = size_spelled 8 bytes rest h
-element_spelled levels kinds.Binary bytes rest h = let x = behind_is (binary_at bytes) rest h in let t = binaries.spelled bytes rest x.0 x.1 in (t.0, t.1, (x.0, t.2))
+element_spelled levels kinds.Binary bytes rest h = let x = rest_of_is (binary_at bytes) rest h in let t = binaries.spelled bytes rest x.0 x.1 in (t.0, t.1, (x.0, t.2))
 element_spelled zero kinds.List bytes rest h = absurd (deep_is_not_ok bytes rest h)
 element_spelled zero kinds.Map bytes rest h = absurd (deep_is_not_ok bytes rest h)
 element_spelled zero kinds.Struct bytes rest h = absurd (deep_is_not_ok bytes rest h)
-element_spelled (suc levels) kinds.List bytes rest h = list_spelled (SpellsElement levels) (element_passed levels) (element_spelled levels) bytes rest h
-element_spelled (suc levels) kinds.Map bytes rest h = map_spelled (SpellsElement levels) (element_passed levels) (element_spelled levels) bytes rest h
-element_spelled (suc levels) kinds.Struct bytes rest h = struct_spelled (SpellsElement levels) (element_passed levels) (element_spelled levels) bytes rest h
+element_spelled (suc levels) kinds.List bytes rest h = list_spelled (SpellsAnyElement levels) (element_passed levels) (element_spelled levels) bytes rest h
+element_spelled (suc levels) kinds.Map bytes rest h = map_spelled (SpellsAnyElement levels) (element_passed levels) (element_spelled levels) bytes rest h
+element_spelled (suc levels) kinds.Struct bytes rest h = struct_spelled (SpellsAnyElement levels) (element_passed levels) (element_spelled levels) bytes rest h
 
 passed_spelled : (kind : ℕ) → IsSpelled (SpellsValue kind) (passed_at kind)
 passed_spelled kind bytes rest h =
     elim (choice (is_kind kind) _ _ _ h) [
-      | inl c ↦ (let t = value_spelled (SpellsElement 32) (element_passed 32) (element_spelled 32) (kind_of kind) bytes rest c.1 in (t.0, t.1, (c.0, t.2)))
+      | inl c ↦ (let t = value_spelled (SpellsAnyElement 32) (element_passed 32) (element_spelled 32) (kind_of kind) bytes rest c.1 in (t.0, t.1, (c.0, t.2)))
       | inr c ↦ absurd (bad_is_not_ok bytes rest c.1)
     ]
 
@@ -167,7 +167,7 @@ module _ (spells : Kind → List ℕ → Type 0) (pass : Kind → List ℕ → R
   value_taken kinds.Map front rest s = by kinds.Map front rest s
   value_taken kinds.Struct front rest s = by kinds.Struct front rest s
 
-  fields_taken : (n most : ℕ) (last : ℤ) (front rest : List ℕ) → n < most → SpellsFields spells n last front → fields_passed pass most last (front ++ rest) ≡ Ok rest
+  fields_taken : (n most : ℕ) (last : ℤ) (front rest : List ℕ) → n < most → SpellsAnyFields spells n last front → fields_passed pass most last (front ++ rest) ≡ Ok rest
   fields_taken n zero last front rest few s = absurd (omega arith)
   fields_taken zero (suc most) last front rest few s = rw ((fields last).given front rest End s) refl
   fields_taken (suc n) (suc most) last front rest few s =
@@ -189,7 +189,7 @@ module _ (spells : Kind → List ℕ → Type 0) (pass : Kind → List ℕ → R
       (fields_taken n most id more rest (omega arith) inner.1.3)
 
 -- each field takes a byte at least, and so does the end
-fields_long : (spells : Kind → List ℕ → Type 0) (n : ℕ) (last : ℤ) (front : List ℕ) → SpellsFields spells n last front → n < length front
+fields_long : (spells : Kind → List ℕ → Type 0) (n : ℕ) (last : ℤ) (front : List ℕ) → SpellsAnyFields spells n last front → n < length front
 fields_long spells zero last [] s = absurd s
 fields_long spells zero last (b ∷ bs) s = omega arith
 fields_long spells (suc n) last front s =
@@ -209,33 +209,33 @@ fields_long spells (suc n) last front s =
       header_long last [] field s = absurd s
       header_long last (b ∷ bs) field s = omega arith
 
-struct_taken : (spells : Kind → List ℕ → Type 0) (pass : Kind → List ℕ → Rest) → ((kind : Kind) → IsTaken (spells kind) (pass kind)) → IsTaken (SpellsStruct spells) (struct_passed pass)
+struct_taken : (spells : Kind → List ℕ → Type 0) (pass : Kind → List ℕ → Rest) → ((kind : Kind) → IsTaken (spells kind) (pass kind)) → IsTaken (SpellsAnyStruct spells) (struct_passed pass)
 struct_taken spells pass by front rest s =
     let long : s.0 < length front = fields_long spells s.0 (pos 0) front s.1 in
     let whole : length (front ++ rest) ≡ length front + length rest = length-append front rest in
     fields_taken spells pass by s.0 (length (front ++ rest)) (pos 0) front rest (omega arith) s.1
 
-behind_given : {A : Type 0} (front : Front A) (x : A) (rest : List ℕ) → front ≡ Ok (x, rest) → behind front ≡ Ok rest
-behind_given front x rest e = rw e refl
+rest_of_given : {A : Type 0} (front : Front A) (x : A) (rest : List ℕ) → front ≡ Ok (x, rest) → rest_of front ≡ Ok rest
+rest_of_given front x rest e = rw e refl
 
-size_taken : (n : ℕ) → IsTaken (λ front. length front ≡ n) (λ bytes. behind (bytes_at n bytes))
-size_taken n front rest s = behind_given (bytes_at n (front ++ rest)) front rest (rw (← s) (bytes_given front rest))
+size_taken : (n : ℕ) → IsTaken (λ front. length front ≡ n) (λ bytes. rest_of (bytes_at n bytes))
+size_taken n front rest s = rest_of_given (bytes_at n (front ++ rest)) front rest (rw (← s) (bytes_given front rest))
 
-element_taken : (levels : ℕ) (kind : Kind) → IsTaken (SpellsElement levels kind) (element_passed levels kind)
+element_taken : (levels : ℕ) (kind : Kind) → IsTaken (SpellsAnyElement levels kind) (element_passed levels kind)
 element_taken levels kinds.Flag front rest s = size_taken 1 front rest s
 element_taken levels kinds.Byte front rest s = size_taken 1 front rest s
-element_taken levels kinds.Whole front rest s = behind_given (number_at (front ++ rest)) s.0 rest (numbers.given front rest s.0 s.1)
+element_taken levels kinds.Whole front rest s = rest_of_given (number_at (front ++ rest)) s.0 rest (numbers.given front rest s.0 s.1)
 element_taken levels kinds.Double front rest s = size_taken 8 front rest s
-element_taken levels kinds.Binary front rest s = behind_given (binary_at (front ++ rest)) s.0 rest (binaries.given front rest s.0 s.1)
+element_taken levels kinds.Binary front rest s = rest_of_given (binary_at (front ++ rest)) s.0 rest (binaries.given front rest s.0 s.1)
 element_taken zero kinds.List front rest s = absurd s
 element_taken zero kinds.Map front rest s = absurd s
 element_taken zero kinds.Struct front rest s = absurd s
-element_taken (suc levels) kinds.List front rest s = list_taken (SpellsElement levels) (element_passed levels) (element_taken levels) front rest s
-element_taken (suc levels) kinds.Map front rest s = map_taken (SpellsElement levels) (element_passed levels) (element_taken levels) front rest s
-element_taken (suc levels) kinds.Struct front rest s = struct_taken (SpellsElement levels) (element_passed levels) (element_taken levels) front rest s
+element_taken (suc levels) kinds.List front rest s = list_taken (SpellsAnyElement levels) (element_passed levels) (element_taken levels) front rest s
+element_taken (suc levels) kinds.Map front rest s = map_taken (SpellsAnyElement levels) (element_passed levels) (element_taken levels) front rest s
+element_taken (suc levels) kinds.Struct front rest s = struct_taken (SpellsAnyElement levels) (element_passed levels) (element_taken levels) front rest s
 
 pub values : (kind : ℕ) → PassesBy (SpellsValue kind) (passed_at kind)
 values kind = record {
   spelled = passed_spelled kind;
-  taken = λ front rest s. rw s.0 (value_taken (SpellsElement 32) (element_passed 32) (element_taken 32) (kind_of kind) front rest s.1);
+  taken = λ front rest s. rw s.0 (value_taken (SpellsAnyElement 32) (element_passed 32) (element_taken 32) (kind_of kind) front rest s.1);
 }

@@ -1,10 +1,10 @@
 -- Reading goes by the grammar.
-use Rattle.std.proofs.Common.{◌≡◌, ℕ, ◌+◌, ◌-◌, ◌*◌, ◌<◌, ◌≤◌, ◌/◌, ◌%◌, ◌^◌, true, nat_lt, nat_le, ◌==◌, IsTrue, ℤ, pos, ◌+ℤ◌, List, [], ◌∷◌, ◌++◌, length, take, drop, Option, Some, None, Result, Ok, Err, inl, inr, refl, sym, ap, subst, ◌∙◌, arith, append_assoc}
+use Rattle.std.proofs.Common.{◌≡◌, ℕ, ◌+◌, ◌-◌, ◌*◌, ◌<◌, ◌≤◌, ◌/◌, ◌%◌, ◌^◌, true, nat_lt, nat_le, ◌==◌, ◌||◌, IsTrue, ℤ, pos, ◌+ℤ◌, List, [], ◌∷◌, ◌++◌, length, take, drop, Option, Some, None, Result, Ok, Err, inl, inr, refl, sym, ap, subst, ◌∙◌, arith, append_assoc}
 use Rattle.std.proofs.Math.Nat.{div-add-mod, mod-lt}
 use Rattle.std.proofs.Math.Seq.{take-append_seam, drop-append_seam}
 use Rattle.std.proofs.lemmas.Nat.{mod-mul-add, div-mul-add}
 use Rattle.std.proofs.lemmas.List.{take-append-drop, length-append, length-take-le}
-use Rattle.std.proofs.lemmas.Bool.{and_parts, leb-true, le-leb, eqb-true, eqb-false, ne_eqb, ltb-true, ltb-false, lt-ltb, le-ltb}
+use Rattle.std.proofs.lemmas.Bool.{and_parts, leb-true, le-leb, eqb-true, eqb-false, ne_eqb, ltb-true, ltb-false, lt-ltb, le-ltb, or_cases}
 use Rattle.dk_grammar.specs.Varint.{IsVarint, varint_at, above}
 use Rattle.dk_grammar.specs.Zigzag.{zigzag_of}
 use Rattle.dk_grammar.specs.Thrift.{of_64_bits, number_at, whole_at, bytes_at, binary_at, count_at, list_at, head, field_at, id_at, is_id, is_kind}
@@ -223,7 +223,7 @@ module _ (list : ListHead) (rest : List ℕ) where
 list_spelled : (bytes rest : List ℕ) (list : ListHead) → list_at bytes ≡ Ok (list, rest) → Spelled SpellsList bytes list rest
 list_spelled [] rest list h = absurd (short_is_not_ok (list, rest) h)
 list_spelled (b ∷ bs) rest list h =
-    elim (choice (is_kind (b % 16)) _ _ _ h) [
+    elim (choice (is_kind (b % 16) || b == 0) _ _ _ h) [
       | inl kind ↦ elim (choice (nat_lt (b / 16) 15) _ _ _ kind.1) [
         | inl few ↦ list_front list rest (b ∷ []) (b ∷ bs) (head (b / 16) (b % 16), bs) (ok_is _ _ few.1) (kind.0, inl (ltb-true (b / 16) 15 few.0, halves b, refl)) refl
         | inr many ↦ (
@@ -236,13 +236,22 @@ list_spelled (b ∷ bs) rest list h =
       | inr other ↦ absurd (bad_is_not_ok (b ∷ bs) (list, rest) other.1)
     ]
 
-few_given : (b count kind : ℕ) (rest : List ℕ) → is_kind kind ≡ true → count < 15 → b ≡ 16 * count + kind → list_at (b ∷ rest) ≡ Ok (head count kind, rest)
+-- the lower half of a byte that names a kind, or is 0
+named_small : (b count kind : ℕ) → (is_kind kind || b == 0) ≡ true → b ≡ 16 * count + kind → kind < 16
+named_small b count kind known e =
+    elim (or_cases (is_kind kind) (b == 0) known) [
+      | inl named ↦ kind_small kind named
+      | inr none ↦ (let zero : b ≡ 0 = eqb-true b 0 none in omega arith)
+    ]
+
+few_given : (b count kind : ℕ) (rest : List ℕ) → (is_kind kind || b == 0) ≡ true → count < 15 → b ≡ 16 * count + kind → list_at (b ∷ rest) ≡ Ok (head count kind, rest)
 few_given b count kind rest known few e =
-    let above : b / 16 ≡ count = upper_half b count kind (kind_small kind known) e in
-    let below : b % 16 ≡ kind = lower_half b count kind (kind_small kind known) e in
+    let small = named_small b count kind known e in
+    let above : b / 16 ≡ count = upper_half b count kind small e in
+    let below : b % 16 ≡ kind = lower_half b count kind small e in
     rw (above, below, known, lt-ltb count 15 few) refl
 
-many_given : (b count kind : ℕ) (front rest : List ℕ) → is_kind kind ≡ true → 240 ≤ b → kind ≡ b % 16 → count < 2 ^ 32 → SpellsNumber front count
+many_given : (b count kind : ℕ) (front rest : List ℕ) → (is_kind kind || b == 0) ≡ true → 240 ≤ b → kind ≡ b % 16 → count < 2 ^ 32 → SpellsNumber front count
     → list_at (b ∷ (front ++ rest)) ≡ Ok (head count kind, rest)
 many_given b count kind front rest known far e small s =
     let low : b % 16 < 16 = mod-lt b (omega arith) in

@@ -1,8 +1,8 @@
 -- Each front leads to a place within the bytes.
-use Rattle.std.proofs.Common.{◌≡◌, ℕ, zero, suc, ◌-◌, ◌<◌, ◌≤◌, ◌/◌, ◌%◌, ◌^◌, Bool, true, false, cond, nat_lt, nat_le, ◌&&◌, ◌==◌, ℤ, pos, ◌+ℤ◌, List, [], ◌∷◌, length, drop, take, Option, Some, None, Result, Ok, Err, arith, length-drop}
+use Rattle.std.proofs.Common.{◌≡◌, ℕ, zero, suc, ◌-◌, ◌<◌, ◌≤◌, ◌/◌, ◌%◌, ◌^◌, Bool, true, false, cond, nat_lt, nat_le, ◌&&◌, ◌||◌, ◌==◌, ℤ, pos, ◌+ℤ◌, List, [], ◌∷◌, length, drop, take, Option, Some, None, Result, Ok, Err, arith, length-drop}
 use Rattle.dk_grammar.specs.Varint.{varint_at, above}
 use Rattle.dk_grammar.specs.Thrift.{Front, ◌>>=◌, bad_at, of_64_bits, number_at, whole_at, bytes_at, binary_at, count_at, list_at, field_at, id_at, is_id, is_kind}
-use Rattle.dk_grammar.specs.Passed.{Rest, behind, each, entry_passed, entries_passed, list_passed, map_passed, value_passed, field_passed, fields_passed, too_deep, element_passed, kind_of, passed_at}
+use Rattle.dk_grammar.specs.Passed.{Rest, rest_of, each, entry_passed, entries_passed, list_passed, map_passed, value_passed, field_passed, fields_passed, too_deep, element_passed, kind_of, passed_at}
 use Rattle.dk_grammar.specs.Within.{Within}
 use Rattle.dk_grammar.specs.declared.thrift.Field.{Field}
 use Rattle.dk_grammar.specs.declared.thrift.Field.TheVariants.{End, Next}
@@ -89,7 +89,7 @@ field_within last (b ∷ bs) =
 pub list_within : (bytes : List ℕ) → Within snd bytes (list_at bytes)
 list_within [] = omega arith
 list_within (b ∷ bs) =
-    either snd (b ∷ bs) (is_kind (b % 16)) _ _
+    either snd (b ∷ bs) (is_kind (b % 16) || b == 0) _ _
     (either snd (b ∷ bs) (nat_lt (b / 16) 15) _ _ (omega arith) (one_more snd b bs _ (then_ snd snd bs (count_at bs) _ (count_within bs) (λ x. omega arith))))
     (omega arith)
 
@@ -97,8 +97,8 @@ list_within (b ∷ bs) =
 abbrev StaysWithin : (List ℕ → Rest) → Type 0
 StaysWithin pass = (bytes : List ℕ) → Within (λ rest. rest) bytes (pass bytes)
 
-behind_within : {A : Type 0} (bytes : List ℕ) (front : Front A) → Within snd bytes front → Within (λ rest. rest) bytes (behind front)
-behind_within bytes front w = then_ snd (λ rest. rest) bytes front _ w (λ x. omega arith)
+rest_of_within : {A : Type 0} (bytes : List ℕ) (front : Front A) → Within snd bytes front → Within (λ rest. rest) bytes (rest_of front)
+rest_of_within bytes front w = then_ snd (λ rest. rest) bytes front _ w (λ x. omega arith)
 
 each_within : (pass : List ℕ → Rest) → StaysWithin pass → (n : ℕ) → StaysWithin (each pass n)
 each_within pass w zero bytes = omega arith
@@ -147,11 +147,11 @@ too_deep_within [] = omega arith
 too_deep_within (b ∷ bs) = omega arith
 
 pub element_within : (levels : ℕ) (kind : Kind) → StaysWithin (element_passed levels kind)
-element_within levels kinds.Flag bytes = behind_within bytes (bytes_at 1 bytes) (bytes_within 1 bytes)
-element_within levels kinds.Byte bytes = behind_within bytes (bytes_at 1 bytes) (bytes_within 1 bytes)
-element_within levels kinds.Whole bytes = behind_within bytes (number_at bytes) (number_within bytes)
-element_within levels kinds.Double bytes = behind_within bytes (bytes_at 8 bytes) (bytes_within 8 bytes)
-element_within levels kinds.Binary bytes = behind_within bytes (binary_at bytes) (binary_within bytes)
+element_within levels kinds.Flag bytes = rest_of_within bytes (bytes_at 1 bytes) (bytes_within 1 bytes)
+element_within levels kinds.Byte bytes = rest_of_within bytes (bytes_at 1 bytes) (bytes_within 1 bytes)
+element_within levels kinds.Whole bytes = rest_of_within bytes (number_at bytes) (number_within bytes)
+element_within levels kinds.Double bytes = rest_of_within bytes (bytes_at 8 bytes) (bytes_within 8 bytes)
+element_within levels kinds.Binary bytes = rest_of_within bytes (binary_at bytes) (binary_within bytes)
 element_within zero kinds.List bytes = too_deep_within bytes
 element_within zero kinds.Map bytes = too_deep_within bytes
 element_within zero kinds.Struct bytes = too_deep_within bytes

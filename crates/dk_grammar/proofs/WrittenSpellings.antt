@@ -2,7 +2,7 @@
 use Rattle.std.proofs.Common.{◌≡◌, ℕ, ◌+◌, ◌*◌, ◌<◌, ◌≤◌, ◌%◌, ◌^◌, Bool, true, false, cond, nat_lt, nat_le, ◌==◌, IsTrue, ℤ, pos, negsuc, ◌+ℤ◌, ◌-ℤ◌, List, length, ◌⊎◌, inl, inr, refl, sym, ap, ◌∙◌, arith, FitsSigned, w64}
 use Rattle.std.proofs.Math.IntN.{+ℤ_comm, -ℤ-+ℤ_cancel}
 use Rattle.std.proofs.lemmas.Nat.{mod-mul-add, div-mul-add}
-use Rattle.std.proofs.lemmas.Bool.{and_parts, leb-true, eqb-false, ltb-true}
+use Rattle.std.proofs.lemmas.Bool.{and_parts, or_left, leb-true, eqb-false, ltb-true}
 use Rattle.dk_grammar.specs.Varint.{varint_bytes}
 use Rattle.dk_grammar.specs.Zigzag.{zigzag_of, zigzag}
 use Rattle.dk_grammar.specs.Thrift.{head, is_id, is_kind}
@@ -81,6 +81,6 @@ kind_small kind h = let p : kind ≤ 12 = leb-true kind 12 (and_parts (nat_le 1 
 pub list_written : (count kind : ℕ) → count < 2 ^ 32 → IsTrue (is_kind kind) → SpellsList (list_bytes count kind) (head count kind)
 list_written count kind small known =
     elim (decided (nat_lt count 15)) [
-      | inl few ↦ rw few (known, inl (ltb-true count 15 few, refl, refl))
-      | inr many ↦ rw many (known, inr (omega arith, byte_of_many kind (kind_small kind known), small, number_written count (omega arith)))
+      | inl few ↦ rw few (or_left (is_kind kind) _ known, inl (ltb-true count 15 few, refl, refl))
+      | inr many ↦ rw many (or_left (is_kind kind) _ known, inr (omega arith, byte_of_many kind (kind_small kind known), small, number_written count (omega arith)))
     ]

@@ -1,5 +1,5 @@
 -- Which bytes are a spelling of which value, apart from reading and writing. A value can have several spellings.
-use Rattle.std.specs.Prelude.{◌≡◌, ℕ, ◌+◌, ◌*◌, ◌%◌, ◌^◌, ◌<◌, ◌≤◌, ◌⊎◌, IsTrue, ℤ, pos, ◌+ℤ◌, Ok, List, [], ◌∷◌, ◌++◌, length}
+use Rattle.std.specs.Prelude.{◌≡◌, ℕ, ◌+◌, ◌*◌, ◌%◌, ◌^◌, ◌<◌, ◌≤◌, ◌⊎◌, ◌==◌, ◌||◌, IsTrue, ℤ, pos, ◌+ℤ◌, Ok, List, [], ◌∷◌, ◌++◌, length}
 use Rattle.dk_grammar.specs.Varint.{IsVarint}
 use Rattle.dk_grammar.specs.Zigzag.{zigzag_of}
 use Rattle.dk_grammar.specs.Thrift.{Front, is_id, is_kind}
@@ -28,11 +28,12 @@ SpellsField last (b ∷ bs) (Next id kind) =
     IsTrue (is_kind kind) × IsTrue (is_id id)
     × (((step : ℕ) × (0 < step) × (b ≡ 16 * step + kind) × (id ≡ last +ℤ pos step) × (bs ≡ [])) ⊎ ((b ≡ kind) × SpellsWhole bs id))
 
--- The header of a list is one byte with the count and the kind, or a byte with 15 and the kind and then the count.
+-- The header of a list is one byte with the count and the kind, or a byte with 15 and the kind and then the count. The byte 0
+-- is the header of no elements, of no kind.
 abbrev pub SpellsList : List ℕ → ListHead → Type 0
 SpellsList [] head = ⊥
 SpellsList (b ∷ bs) head =
-    IsTrue (is_kind head.kind)
+    IsTrue (is_kind head.kind || b == 0)
     × (((head.count < 15) × (b ≡ 16 * head.count + head.kind) × (bs ≡ [])) ⊎ ((240 ≤ b) × (head.kind ≡ b % 16) × (head.count < 2 ^ 32) × SpellsNumber bs head.count))
 
 -- a value, spelled by the bytes in front of the rest

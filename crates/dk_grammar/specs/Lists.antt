@@ -1,5 +1,5 @@
 -- Lists of Thrift's compact protocol whose elements are read, and structs that hold one such value beside others.
-use Rattle.std.specs.Prelude.{◌≡◌, ℕ, zero, suc, ◌==◌, ◌&&◌, Bool, if◌then◌else◌, IsTrue, IsFalse, ℤ, Option, Some, None, option_map, Ok, List, [], ◌∷◌, ◌++◌, length}
+use Rattle.std.specs.Prelude.{◌≡◌, ℕ, zero, suc, ◌==◌, ◌&&◌, ◌||◌, Bool, if◌then◌else◌, IsTrue, IsFalse, ℤ, Option, Some, None, option_map, Ok, List, [], ◌∷◌, ◌++◌, length}
 use Rattle.std.specs.Ordering.{int_eq}
 use Rattle.dk_grammar.specs.Thrift.{Front, ◌>>=◌, bad_at, list_at, head}
 use Rattle.dk_grammar.specs.Grammar.{SpellsList}
@@ -11,18 +11,26 @@ abbrev pub each_at : {A : Type 0} → (List ℕ → Front A) → ℕ → List �
 each_at read zero bytes = Ok ([], bytes)
 each_at read (suc n) bytes = read bytes >>= λ x. each_at read n x.1 >>= λ more. Ok (x.0 ∷ more.0, more.1)
 
+-- whether a list may have elements of this kind; where there are none, its kind doesn't matter
+abbrev pub may_hold : ℕ → ℕ → ℕ → Bool
+may_hold kind count of = count == 0 || of == kind
+
 -- a list whose elements are of this kind
 abbrev pub list_of : {A : Type 0} → ℕ → (List ℕ → Front A) → List ℕ → Front (List A)
-list_of kind read bytes = list_at bytes >>= λ x. if x.0.kind == kind then each_at read x.0.count x.1 else bad_at bytes
+list_of kind read bytes = list_at bytes >>= λ x. if may_hold kind x.0.count x.0.kind then each_at read x.0.count x.1 else bad_at bytes
 
 -- the bytes are the values, one behind another
 abbrev pub SpellsEach : {A : Type 0} → (List ℕ → A → Type 0) → List ℕ → List A → Type 0
 SpellsEach spells bytes [] = bytes ≡ []
 SpellsEach spells bytes (x ∷ xs) = Behind (λ front. spells front x) (λ more. SpellsEach spells more xs) bytes
 
+-- the bytes are the header of a list of so many elements of this kind, or of none of any kind
+abbrev pub SpellsListHeader : ℕ → ℕ → List ℕ → Type 0
+SpellsListHeader kind count bytes = (of : ℕ) × IsTrue (may_hold kind count of) × SpellsList bytes (head count of)
+
 -- the bytes are a list of these values, which are of this kind
 abbrev pub SpellsListOf : {A : Type 0} → ℕ → (List ℕ → A → Type 0) → List ℕ → List A → Type 0
-SpellsListOf kind spells bytes values = Behind (λ front. SpellsList front (head (length values) kind)) (λ more. SpellsEach spells more values) bytes
+SpellsListOf kind spells bytes values = Behind (SpellsListHeader kind (length values)) (λ more. SpellsEach spells more values) bytes
 
 -- what counts of a field: the value that a struct holds, or what counts of its other fields
 pub data Either (A B : Type 0) : Type 0 where

@@ -37,29 +37,29 @@ SpellsFieldValue spells kinds.Flag bytes = bytes ≡ []
 SpellsFieldValue spells kind bytes = spells kind bytes
 
 -- so many fields behind the field `last`, and the end
-abbrev pub SpellsFields : (Kind → List ℕ → Type 0) → ℕ → ℤ → List ℕ → Type 0
-SpellsFields spells zero last bytes = SpellsField last bytes End
-SpellsFields spells (suc n) last bytes =
-    (id : ℤ) × ((kind : ℕ) × Behind (λ header. SpellsField last header (Next id kind)) (Behind (SpellsFieldValue spells (kind_of kind)) (SpellsFields spells n id)) bytes)
+abbrev pub SpellsAnyFields : (Kind → List ℕ → Type 0) → ℕ → ℤ → List ℕ → Type 0
+SpellsAnyFields spells zero last bytes = SpellsField last bytes End
+SpellsAnyFields spells (suc n) last bytes =
+    (id : ℤ) × ((kind : ℕ) × Behind (λ header. SpellsField last header (Next id kind)) (Behind (SpellsFieldValue spells (kind_of kind)) (SpellsAnyFields spells n id)) bytes)
 
-abbrev pub SpellsStruct : (Kind → List ℕ → Type 0) → List ℕ → Type 0
-SpellsStruct spells bytes = (n : ℕ) × SpellsFields spells n (pos 0) bytes
+abbrev pub SpellsAnyStruct : (Kind → List ℕ → Type 0) → List ℕ → Type 0
+SpellsAnyStruct spells bytes = (n : ℕ) × SpellsAnyFields spells n (pos 0) bytes
 
 -- an element of a list or a map, with at most so many levels of structs and containers
-abbrev pub SpellsElement : ℕ → Kind → List ℕ → Type 0
-SpellsElement levels kinds.Flag bytes = length bytes ≡ 1
-SpellsElement levels kinds.Byte bytes = length bytes ≡ 1
-SpellsElement levels kinds.Whole bytes = (n : ℕ) × SpellsNumber bytes n
-SpellsElement levels kinds.Double bytes = length bytes ≡ 8
-SpellsElement levels kinds.Binary bytes = (part : List ℕ) × SpellsBinary bytes part
-SpellsElement zero kind bytes = ⊥
-SpellsElement (suc levels) kinds.List bytes = SpellsElements (SpellsElement levels) bytes
-SpellsElement (suc levels) kinds.Map bytes = SpellsMap (SpellsElement levels) bytes
-SpellsElement (suc levels) kinds.Struct bytes = SpellsStruct (SpellsElement levels) bytes
+abbrev pub SpellsAnyElement : ℕ → Kind → List ℕ → Type 0
+SpellsAnyElement levels kinds.Flag bytes = length bytes ≡ 1
+SpellsAnyElement levels kinds.Byte bytes = length bytes ≡ 1
+SpellsAnyElement levels kinds.Whole bytes = (n : ℕ) × SpellsNumber bytes n
+SpellsAnyElement levels kinds.Double bytes = length bytes ≡ 8
+SpellsAnyElement levels kinds.Binary bytes = (part : List ℕ) × SpellsBinary bytes part
+SpellsAnyElement zero kind bytes = ⊥
+SpellsAnyElement (suc levels) kinds.List bytes = SpellsElements (SpellsAnyElement levels) bytes
+SpellsAnyElement (suc levels) kinds.Map bytes = SpellsMap (SpellsAnyElement levels) bytes
+SpellsAnyElement (suc levels) kinds.Struct bytes = SpellsAnyStruct (SpellsAnyElement levels) bytes
 
 -- the value of a field whose kind has this number
 abbrev pub SpellsValue : ℕ → List ℕ → Type 0
-SpellsValue kind bytes = IsTrue (is_kind kind) × SpellsFieldValue (SpellsElement 32) (kind_of kind) bytes
+SpellsValue kind bytes = IsTrue (is_kind kind) × SpellsFieldValue (SpellsAnyElement 32) (kind_of kind) bytes
 
 -- a spelling of some value in front of the rest
 abbrev pub Takes : (List ℕ → Type 0) → List ℕ → List ℕ → Type 0

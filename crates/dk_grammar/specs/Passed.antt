@@ -8,12 +8,12 @@ use Rattle.dk_grammar.specs.declared.thrift.Kind.TheVariants as kinds
 use Rattle.dk_grammar.specs.declared.thrift.Flaw.{Flaw}
 use Rattle.dk_grammar.specs.declared.thrift.Flaw.TheVariants.{Short, TooDeep}
 
--- the bytes behind it, or the flaw
+-- the bytes behind a value, or the flaw
 abbrev pub Rest : Type 0
 Rest = Result (List ℕ) Flaw
 
-abbrev pub behind : {A : Type 0} → Front A → Rest
-behind front = front >>= λ x. Ok x.1
+abbrev pub rest_of : {A : Type 0} → Front A → Rest
+rest_of front = front >>= λ x. Ok x.1
 
 -- the kind of a number from 1 to 12
 abbrev pub kind_of : ℕ → Kind
@@ -73,11 +73,11 @@ too_deep (b ∷ bs) = Err (TooDeep (length (b ∷ bs)))
 
 -- An element of a list or a map, with at most so many levels of structs and containers.
 abbrev pub element_passed : ℕ → Kind → List ℕ → Rest
-element_passed levels kinds.Flag bytes = behind (bytes_at 1 bytes)
-element_passed levels kinds.Byte bytes = behind (bytes_at 1 bytes)
-element_passed levels kinds.Whole bytes = behind (number_at bytes)
-element_passed levels kinds.Double bytes = behind (bytes_at 8 bytes)
-element_passed levels kinds.Binary bytes = behind (binary_at bytes)
+element_passed levels kinds.Flag bytes = rest_of (bytes_at 1 bytes)
+element_passed levels kinds.Byte bytes = rest_of (bytes_at 1 bytes)
+element_passed levels kinds.Whole bytes = rest_of (number_at bytes)
+element_passed levels kinds.Double bytes = rest_of (bytes_at 8 bytes)
+element_passed levels kinds.Binary bytes = rest_of (binary_at bytes)
 element_passed zero kind bytes = too_deep bytes
 element_passed (suc levels) kinds.List bytes = list_passed (element_passed levels) bytes
 element_passed (suc levels) kinds.Map bytes = map_passed (element_passed levels) bytes

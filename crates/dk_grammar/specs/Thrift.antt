@@ -1,5 +1,5 @@
 -- Thrift's compact protocol: what bytes begin with, by cases on the bytes.
-use Rattle.std.specs.Prelude.{ℕ, ◌/◌, ◌%◌, ◌^◌, ◌==◌, ◌&&◌, nat_lt, nat_le, int_le, Bool, if◌then◌else◌, ℤ, pos, negsuc, ◌+ℤ◌, Option, Some, None, Result, Ok, Err, List, [], ◌∷◌, length, take, drop}
+use Rattle.std.specs.Prelude.{ℕ, ◌/◌, ◌%◌, ◌^◌, ◌==◌, ◌&&◌, ◌||◌, nat_lt, nat_le, int_le, Bool, if◌then◌else◌, ℤ, pos, negsuc, ◌+ℤ◌, Option, Some, None, Result, Ok, Err, List, [], ◌∷◌, length, take, drop}
 use Rattle.dk_grammar.specs.Varint.{varint_at}
 use Rattle.dk_grammar.specs.Zigzag.{zigzag_of}
 use Rattle.dk_grammar.specs.declared.thrift.Field.{Field}
@@ -73,9 +73,10 @@ abbrev pub head : ℕ → ℕ → ListHead
 head count kind = record { count = count; kind = kind }
 
 -- The header of a list or a set is one byte, 16 times the count and the kind, or 15 in place of the count, which then follows.
+-- A list of no elements needs no kind: the byte 0 is a header too.
 abbrev pub list_at : List ℕ → Front ListHead
 list_at [] = Err Short
 list_at (b ∷ bs) =
-    if is_kind (b % 16) then (
+    if is_kind (b % 16) || b == 0 then (
     if nat_lt (b / 16) 15 then Ok (head (b / 16) (b % 16), bs) else (count_at bs >>= λ x. Ok (head x.0 (b % 16), x.1)))
     else bad_at (b ∷ bs)

@@ -2,7 +2,7 @@
 //! with no value.
 
 /// What a field header says (Thrift compact protocol, "Struct encoding").
-#[derive(Clone, Copy, Debug, PartialEq, Eq)]
+#[derive(Clone, Copy)]
 pub enum Field {
     /// The struct ends here.
     End,
@@ -11,15 +11,15 @@ pub enum Field {
 }
 
 /// What the header of a list or set says: how many elements follow, and of which kind, a number from 1 to 12 (Thrift compact
-/// protocol, "List and set encoding").
-#[derive(Clone, Copy, Debug, PartialEq, Eq)]
+/// protocol, "List and set encoding"). Where there are none, the kind may be 0: some writers spell an empty list as the byte 0.
+#[derive(Clone, Copy)]
 pub struct ListHead {
     pub count: u32,
     pub kind: u8,
 }
 
 /// The kinds of values, by how they are spelled.
-#[derive(Clone, Copy, Debug, PartialEq, Eq)]
+#[derive(Clone, Copy)]
 pub enum Kind {
     /// A truth value. As a field's value it stands in the kind, 1 for true and 2 for false.
     Flag,
@@ -40,7 +40,7 @@ pub enum Kind {
 }
 
 /// Why bytes begin with no value. A place is said by the number of bytes from it to the end.
-#[derive(Clone, Copy, Debug, PartialEq, Eq)]
+#[derive(Clone, Copy)]
 pub enum Flaw {
     /// They end inside the value.
     Short,

@@ -3,7 +3,7 @@ use Rattle.std.proofs.Common.{◌≡◌, ℕ, suc, ◌+◌, ◌-◌, ◌*◌, �
 use Rattle.std.proofs.lemmas.Bool.{lt-ltb, le-ltb}
 use Rattle.std.proofs.lemmas.List.{drop_more}
 use Rattle.dk_grammar.specs.Varint.{varint_at}
-use Rattle.dk_hybrid.specs.Headers.{capped, header_in, BeginNumber, BeginHeader}
+use Rattle.dk_hybrid.specs.Headers.{capped, kept_header, BeginNumber, BeginHeader}
 use Rattle.dk_hybrid.specs.declared.header.Header.{Header}
 
 pub capped_more : (kept number low : ℕ) → kept ≡ capped number → low < 128 → min (min (kept * 128) (2 ^ 64 - 1) + low) (2 ^ 64 - 1) ≡ capped (low + 128 * number)
@@ -30,9 +30,9 @@ endless (b ∷ bs) large =
     rw (le-ltb b 128 first, rest) refl
 
 -- a number of one byte
-pub one_byte : (bytes : List ℕ) (first : ℕ) (header : Header) (rest : List ℕ) → bytes ≡ first ∷ rest → first < 128 → header ≡ header_in (first + 128 * 0) → BeginHeader bytes header rest
+pub one_byte : (bytes : List ℕ) (first : ℕ) (header : Header) (rest : List ℕ) → bytes ≡ first ∷ rest → first < 128 → header ≡ kept_header (first + 128 * 0) → BeginHeader bytes header rest
 one_byte bytes first header rest whole small is = record {
   number = first;
   read = ap varint_at whole ∙ rw (lt-ltb first 128 small) refl;
-  kept_as = is ∙ ap header_in (omega arith);
+  kept_as = is ∙ ap kept_header (omega arith);
 }

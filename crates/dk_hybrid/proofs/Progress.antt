@@ -6,7 +6,7 @@ use Rattle.std.specs.List.{flat_map}
 use Rattle.dk_grammar.specs.Varint.{IsVarint}
 use Rattle.dk_grammar.specs.Runs.{Run as Meant, values_in, header_of, IsRun, AreFirst, BeginRun, EndShort}
 use Rattle.dk_grammar.proofs.Runs.{first_again, short_has_none}
-use Rattle.dk_hybrid.specs.Runs.{shown, Stands}
+use Rattle.dk_hybrid.specs.Runs.{kept_values, KeepsRun}
 use Rattle.dk_hybrid.specs.declared.run.Run.{Run}
 
 pub take_both : (n : ℕ) (xs ys : List ℕ) → take n (xs ++ ys) ≡ take n xs ++ take (n - length xs) ys
@@ -50,7 +50,7 @@ left_after count values added run is =
     omega (arith, length-append values added, ap length is, length-take (count - length values) run)
 
 pub advance : (width count : ℕ) (bytes values rest : List ℕ) (run : Run) (after new : List ℕ) → length values < count → count < 2 ^ 64 → Continues width count bytes values rest
-    → Stands width rest run after → new ≡ values ++ take (count - length values) (shown width run) → Continues width count bytes new after
+    → KeepsRun width rest run after → new ≡ values ++ take (count - length values) (kept_values width run) → Continues width count bytes new after
 advance width count bytes values rest run after new some fits before stands is =
     let left : ℕ = count - length values in
     let added : List ℕ = take left (values_in stands.meant) in
@@ -72,7 +72,7 @@ nonempty : (bytes : List ℕ) (n : ℕ) → IsVarint bytes n → 0 < length byte
 nonempty [] n is = absurd is
 nonempty (b ∷ bytes) n is = omega arith
 
-pub shorter : (width : ℕ) (bytes : List ℕ) (run : Run) (rest : List ℕ) → Stands width bytes run rest → length rest < length bytes
+pub shorter : (width : ℕ) (bytes : List ℕ) (run : Run) (rest : List ℕ) → KeepsRun width bytes run rest → length rest < length bytes
 shorter width bytes run rest stands =
     omega (
       arith,

@@ -10,8 +10,8 @@ use Rattle.dk_grammar.specs.Digits.{number_of, digits_of}
 use Rattle.dk_grammar.specs.Runs.{repeated, packed, bytes_for, BeginRun}
 use Rattle.dk_grammar.proofs.Digits.{length-digits_of, take-digits_of, digits_of-one}
 use Rattle.dk_grammar.proofs.Bodies.{AreBytes, grouped, repeated_run, packed_run, repeated_begun, packed_begun, number_begun, varint_taken}
-use Rattle.dk_hybrid.specs.Headers.{capped, header_in, BeginHeader}
-use Rattle.dk_hybrid.specs.Runs.{shown, IsWhole, Stands, KeepsValue, KeepsGroups}
+use Rattle.dk_hybrid.specs.Headers.{capped, kept_header, BeginHeader}
+use Rattle.dk_hybrid.specs.Runs.{kept_values, HasWholeGroups, KeepsRun, KeepsValue, KeepsGroups}
 use Rattle.dk_hybrid.specs.declared.header.Header.{Header}
 use Rattle.dk_hybrid.specs.declared.header.Header.TheVariants.{Copies, Groups}
 use Rattle.dk_hybrid.specs.declared.run.Run.{Run}
@@ -52,7 +52,7 @@ decided : (b : Bool) → (b ≡ true) ⊎ (b ≡ false)
 decided true = inl refl
 decided false = inr refl
 
-copies_header : (number copies : ℕ) → Copies copies ≡ header_in number → IsCopies number copies
+copies_header : (number copies : ℕ) → Copies copies ≡ kept_header number → IsCopies number copies
 copies_header number copies is =
     elim (decided (number % 2 == 0)) [
       | inl even ↦ (
@@ -64,7 +64,7 @@ copies_header number copies is =
           cc)
     ]
 
-groups_header : (number groups : ℕ) → Groups groups ≡ header_in number → IsGroups number groups
+groups_header : (number groups : ℕ) → Groups groups ≡ kept_header number → IsGroups number groups
 groups_header number groups is =
     elim (decided (number % 2 == 0)) [
       | inl even ↦ (
@@ -80,7 +80,7 @@ groups_header number groups is =
 pub copies_stand : {X : Type 0} (run : X → Run) (behind : X → List ℕ) (width copies : ℕ) (bytes rest : List ℕ) (header : Header) (result : Option X)
     → BeginHeader bytes header rest → header ≡ Copies copies
     → MatchOption result (length rest < bytes_for width) (λ x. KeepsValue width copies rest (run x) (behind x))
-    → MatchOption result (BeginRun width bytes) (λ x. Stands width bytes (run x) (behind x))
+    → MatchOption result (BeginRun width bytes) (λ x. KeepsRun width bytes (run x) (behind x))
 copies_stand run behind width copies bytes rest header None begun is short =
     let taken = varint_taken bytes begun.number rest begun.read in
     let number = copies_header begun.number copies (sym is ∙ begun.kept_as) in
@@ -94,10 +94,10 @@ copies_stand run behind width copies bytes rest header (Some x) begun is value =
       front = taken.front ++ body;
       whole = taken.whole ∙ ap (λ xs. taken.front ++ xs) (sym (take-append-drop (bytes_for width) rest) ∙ ap (λ xs. body ++ xs) (sym value.behind)) ∙ sym (append_assoc taken.front body (behind x));
       is = repeated_run width (begun.number / 2) taken.front body (subst (IsVarint taken.front) number.even taken.spells) (length-take-le (bytes_for width) rest value.room);
-      kept = subst (IsWhole width) (sym value.value) tt;
+      kept = subst (HasWholeGroups width) (sym value.value) tt;
       same = λ count fits. take_capped count (begun.number / 2) (number_of 256 body) fits
           ∙ ap (λ n. take count (replicate n (number_of 256 body))) (sym number.kept)
-          ∙ ap (λ r. take count (shown width r)) (sym value.value);
+          ∙ ap (λ r. take count (kept_values width r)) (sym value.value);
     }
 
 bytes_of_rest : (front bytes rest : List ℕ) → bytes ≡ front ++ rest → AreBytes bytes → AreBytes rest
@@ -122,8 +122,8 @@ all_groups width groups number len some kept room short =
 -- the values that groups show are those that are meant, as far as any are wanted
 same_values : (width groups number : ℕ) (body : List ℕ) (run : Run) (count : ℕ) → count < 2 ^ 64 → groups ≡ capped number → number * width ≡ groups * width → length body ≡ groups * width
     → (0 < width → groups ≡ number)
-    → shown width run ≡ cond (width == 0) (replicate (min (8 * groups) (2 ^ 64 - 1)) 0) (digits_of (2 ^ width) (8 * groups) (number_of 256 body))
-    → take count (grouped width number body) ≡ take count (shown width run)
+    → kept_values width run ≡ cond (width == 0) (replicate (min (8 * groups) (2 ^ 64 - 1)) 0) (digits_of (2 ^ width) (8 * groups) (number_of 256 body))
+    → take count (grouped width number body) ≡ take count (kept_values width run)
 same_values zero groups number [] run count fits kept product len whole is =
     let all : min (8 * groups) (2 ^ 64 - 1) ≡ capped (8 * number) = omega arith in
     ap (take count) (digits_of-one (8 * number) 0 refl)
@@ -133,7 +133,7 @@ same_values zero groups number [] run count fits kept product len whole is =
 same_values zero groups number (b ∷ bs) run count fits kept product len whole is = absurd (omega (arith, len, mul-zero groups))
 same_values (suc width) groups number body run count fits kept product len whole is =
     let some : suc width == 0 ≡ false = ne_eqb (suc width) 0 (λ h. omega (arith, h)) in
-    let values : shown (suc width) run ≡ digits_of (2 ^ suc width) (8 * groups) (number_of 256 body) =
+    let values : kept_values (suc width) run ≡ digits_of (2 ^ suc width) (8 * groups) (number_of 256 body) =
     is ∙ ap (λ b. cond b (replicate (min (8 * groups) (2 ^ 64 - 1)) 0) (digits_of (2 ^ suc width) (8 * groups) (number_of 256 body))) some in
     ap (λ n. take count (digits_of (2 ^ suc width) (8 * n) (number_of 256 body))) (sym (whole (omega arith))) ∙ ap (take count) (sym values)
 
@@ -141,7 +141,7 @@ same_values (suc width) groups number body run count fits kept product len whole
 pub groups_stand : {X : Type 0} (run : X → Run) (behind : X → List ℕ) (width groups : ℕ) (bytes rest : List ℕ) (header : Header) (result : Option X)
     → BeginHeader bytes header rest → header ≡ Groups groups → AreBytes bytes → length rest < 2 ^ 64 - 1
     → MatchOption result (length rest < groups * width) (λ x. KeepsGroups width groups rest (run x) (behind x))
-    → MatchOption result (BeginRun width bytes) (λ x. Stands width bytes (run x) (behind x))
+    → MatchOption result (BeginRun width bytes) (λ x. KeepsRun width bytes (run x) (behind x))
 groups_stand run behind width groups bytes rest header None begun is fit room short =
     let taken = varint_taken bytes begun.number rest begun.read in
     let number = groups_header begun.number groups (sym is ∙ begun.kept_as) in
@@ -171,6 +171,6 @@ on_ok_same (Ok x) new found meant is same = is ∙ same
 on_ok_same (Err e) new found meant is same = tt
 
 pub number_stands : {X : Type 0} (run : X → Run) (behind : X → List ℕ) (width : ℕ) (bytes : List ℕ) (result : Option X) → result ≡ None → varint_at bytes ≡ None
-    → MatchOption result (BeginRun width bytes) (λ x. Stands width bytes (run x) (behind x))
+    → MatchOption result (BeginRun width bytes) (λ x. KeepsRun width bytes (run x) (behind x))
 number_stands run behind width bytes None is none = number_begun width bytes none
 number_stands run behind width bytes (Some x) is none = cc

@@ -9,8 +9,8 @@ abbrev pub capped : ℕ → ℕ
 capped n = min n (2 ^ 64 - 1)
 
 -- even before copies, odd before groups
-abbrev pub header_in : ℕ → Header
-header_in n = if n % 2 == 0 then Copies (capped (n / 2)) else Groups (capped (n / 2))
+abbrev pub kept_header : ℕ → Header
+kept_header n = if n % 2 == 0 then Copies (capped (n / 2)) else Groups (capped (n / 2))
 
 -- the bytes begin with a number that the code keeps as this one, and the rest stands behind it
 pub record BeginNumber (bytes : List ℕ) (kept : ℕ) (rest : List ℕ) : Type 0 where
@@ -22,4 +22,4 @@ pub record BeginNumber (bytes : List ℕ) (kept : ℕ) (rest : List ℕ) : Type 
 pub record BeginHeader (bytes : List ℕ) (header : Header) (rest : List ℕ) : Type 0 where
   pub number : ℕ
   pub read : varint_at bytes ≡ Some (number, rest)
-  pub kept_as : header ≡ header_in number
+  pub kept_as : header ≡ kept_header number

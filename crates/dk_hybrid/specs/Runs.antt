@@ -8,23 +8,23 @@ use Rattle.dk_hybrid.specs.declared.fault.HybridFault.{HybridFault}
 use Rattle.dk_hybrid.specs.declared.fault.HybridFault.TheVariants.{Width, Short, OutOfMemory}
 
 -- the values of a run
-abbrev pub shown : ℕ → Run → List ℕ
-shown width (Repeated copies value) = replicate copies value
-shown width (Packed groups body) = digits_of (2 ^ width) (8 * groups) (number_of 256 body.now)
+abbrev pub kept_values : ℕ → Run → List ℕ
+kept_values width (Repeated copies value) = replicate copies value
+kept_values width (Packed groups body) = digits_of (2 ^ width) (8 * groups) (number_of 256 body.now)
 
 -- groups stand whole, and take bytes
-abbrev pub IsWhole : ℕ → Run → Type 0
-IsWhole width (Repeated copies value) = ⊤
-IsWhole width (Packed groups body) = (0 < width) × (length body.now ≡ groups * width)
+abbrev pub HasWholeGroups : ℕ → Run → Type 0
+HasWholeGroups width (Repeated copies value) = ⊤
+HasWholeGroups width (Packed groups body) = (0 < width) × (length body.now ≡ groups * width)
 
 -- The bytes begin with a run, which the code keeps as this one, and the rest stands behind it. So many values as memory could hold are the same.
-pub record Stands (width : ℕ) (bytes : List ℕ) (run : Run) (rest : List ℕ) : Type 0 where
+pub record KeepsRun (width : ℕ) (bytes : List ℕ) (run : Run) (rest : List ℕ) : Type 0 where
   pub meant : Meant
   pub front : List ℕ
   pub whole : bytes ≡ front ++ rest
   pub is : IsRun width meant front
-  pub kept : IsWhole width run
-  pub same : (count : ℕ) → count < 2 ^ 64 → take count (values_in meant) ≡ take count (shown width run)
+  pub kept : HasWholeGroups width run
+  pub same : (count : ℕ) → count < 2 ^ 64 → take count (values_in meant) ≡ take count (kept_values width run)
 
 -- the run is copies of the value at the front of the bytes, and the rest stands behind it
 pub record KeepsValue (width copies : ℕ) (bytes : List ℕ) (run : Run) (rest : List ℕ) : Type 0 where
@@ -35,13 +35,13 @@ pub record KeepsValue (width copies : ℕ) (bytes : List ℕ) (run : Run) (rest 
 -- The run is the groups at the front of the bytes, and the rest stands behind them. Values of no bits are all 0.
 pub record KeepsGroups (width groups : ℕ) (bytes : List ℕ) (run : Run) (rest : List ℕ) : Type 0 where
   pub room : groups * width ≤ length bytes
-  pub kept : IsWhole width run
-  pub values : shown width run ≡ (if width == 0 then replicate (min (8 * groups) (2 ^ 64 - 1)) 0 else digits_of (2 ^ width) (8 * groups) (number_of 256 (take (groups * width) bytes)))
+  pub kept : HasWholeGroups width run
+  pub values : kept_values width run ≡ (if width == 0 then replicate (min (8 * groups) (2 ^ 64 - 1)) 0 else digits_of (2 ^ width) (8 * groups) (number_of 256 (take (groups * width) bytes)))
   pub behind : rest ≡ drop (groups * width) bytes
 
 -- the result is this, unless memory was refused
-abbrev pub Gives : {X Y : Type 0} → (X → Y) → Result X HybridFault → Y → Type 0
-Gives view (Ok found) meant = view found ≡ meant
-Gives view (Err Width) meant = ⊥
-Gives view (Err Short) meant = ⊥
-Gives view (Err OutOfMemory) meant = ⊤
+abbrev pub GivesValues : {X Y : Type 0} → (X → Y) → Result X HybridFault → Y → Type 0
+GivesValues view (Ok found) meant = view found ≡ meant
+GivesValues view (Err Width) meant = ⊥
+GivesValues view (Err Short) meant = ⊥
+GivesValues view (Err OutOfMemory) meant = ⊤

@@ -2,7 +2,7 @@
 
 ghost use Rattle.std.specs.Prelude.{◌≡◌, ℕ, ◌<◌, ◌≤◌, ◌↔◌, ◌++◌, List, length, take, IfOk, IsErr, IsErrOf};
 ghost use Rattle.dk_grammar.specs.Runs.{AreFirst, EndShort};
-ghost use Rattle.dk_hybrid.specs.Runs.{Gives};
+ghost use Rattle.dk_hybrid.specs.Runs.{GivesValues};
 
 use crate::fault::HybridFault;
 use crate::run::{append, read_run};
@@ -26,7 +26,7 @@ pub fn decode(
     ensures count { IfOk result (λ x. length x.0.items ≡ count) }
     // Where bytes at the front are runs with these first values, it is these that are answered.
     ensures only { width ≤ 32 → (values front rest : List ℕ) → AreFirst width count values front → bytes.now ≡ front ++ rest
-        → Gives {Y = List ℕ × ℕ} (λ x. (x.0.items, x.1)) result (values, length front) }
+        → GivesValues {Y = List ℕ × ℕ} (λ x. (x.0.items, x.1)) result (values, length front) }
     ensures width { IsErrOf result HybridFault.Width ↔ (32 < width) }
     // `Short` comes only where the bytes end first, and there no values are answered.
     ensures short { IsErrOf result HybridFault.Short → EndShort width count bytes.now }

@@ -1,15 +1,19 @@
 //! What can be wrong with runs.
 
 use std::alloc::{AllocError, AllocFailed};
+use thiserror::Error;
 
 /// Why bytes give no values.
-#[derive(Clone, Copy, Debug, PartialEq, Eq)]
+#[derive(Clone, Copy, Debug, Error)]
 pub enum HybridFault {
     /// A value would have more than 32 bits.
+    #[error("values of more than 32 bits")]
     Width,
     /// The bytes end before the values do.
+    #[error("the bytes end before the values")]
     Short,
     /// Memory was refused.
+    #[error("out of memory")]
     OutOfMemory,
 }
 

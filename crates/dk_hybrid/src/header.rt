@@ -2,7 +2,7 @@
 
 ghost use Rattle.std.specs.Prelude.{◌≡◌, ℕ, ◌+◌, ◌*◌, ◌/◌, ◌%◌, ◌^◌, ◌<◌, ◌≤◌, length, drop, slice_index, MatchOption, None};
 ghost use Rattle.dk_grammar.specs.Varint.{varint_at};
-ghost use Rattle.dk_hybrid.specs.Headers.{capped, header_in, BeginNumber, BeginHeader};
+ghost use Rattle.dk_hybrid.specs.Headers.{capped, kept_header, BeginNumber, BeginHeader};
 
 /// What a run is, and how long. A number past the greatest `u64` stands as that, since no more
 /// values are ever asked for.
@@ -28,7 +28,7 @@ pub(crate) fn read_header(bytes: &[u8]) -> Option<(Header, &[u8])>
 
 /// The header whose lowest seven bits are `low`.
 fn header_of(low: u8, high: u64) -> Header
-    ensures { (number : ℕ) → high ≡ capped number → result ≡ header_in (low + 128 * number) }
+    ensures { (number : ℕ) → high ≡ capped number → result ≡ kept_header (low + 128 * number) }
 {
     let amount = high.saturating_mul(64).saturating_add(u64::from(low / 2));
     if low % 2 == 0 {

@@ -8,8 +8,6 @@ mod header;
 pub mod laws;
 mod packing;
 mod run;
-#[cfg(test)]
-mod tests;
 mod unpacking;
 
 pub use decoding::decode;

@@ -3,7 +3,7 @@
 ghost use Rattle.std.specs.Prelude.{◌≡◌, ℕ, ◌+◌, ◌-◌, ◌*◌, ◌/◌, ◌%◌, ◌^◌, ◌<◌, ◌≤◌, ◌++◌, length, take, drop, min, vec_len, MatchOption, OnOk};
 ghost use Rattle.dk_grammar.specs.Digits.{number_of};
 ghost use Rattle.dk_grammar.specs.Runs.{bytes_for, BeginRun};
-ghost use Rattle.dk_hybrid.specs.Runs.{shown, IsWhole, Stands, KeepsValue, KeepsGroups};
+ghost use Rattle.dk_hybrid.specs.Runs.{kept_values, HasWholeGroups, KeepsRun, KeepsValue, KeepsGroups};
 
 use crate::header::{Header, read_header};
 use crate::unpacking::{number_in, unpack};
@@ -21,7 +21,7 @@ pub(crate) enum Run<'a> {
 /// The run at the front, and the bytes behind it. `None` where the bytes end inside it.
 pub(crate) fn read_run(bytes: &[u8], width: u8) -> Option<(Run<'_>, &[u8])>
     requires { width ≤ 32 }
-    ensures { MatchOption result (BeginRun width bytes.now) (λ x. Stands width bytes.now x.0 x.1.now) }
+    ensures { MatchOption result (BeginRun width bytes.now) (λ x. KeepsRun width bytes.now x.0 x.1.now) }
 {
     let (header, rest) = read_header(bytes)?;
     match header {
@@ -68,9 +68,9 @@ pub(crate) fn append(
     most: usize,
 ) -> Result<(), AllocError>
     requires narrow { width ≤ 32 }
-    requires whole { IsWhole width run }
+    requires whole { HasWholeGroups width run }
     requires room { vec_len values.old + most < 2 ^ 64 }
-    ensures { OnOk result (values.new.items ≡ values.old.items ++ take most (shown width run.entry)) }
+    ensures { OnOk result (values.new.items ≡ values.old.items ++ take most (kept_values width run.entry)) }
 {
     match run {
         Run::Repeated { copies, value } => {

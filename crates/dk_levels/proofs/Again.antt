@@ -8,7 +8,7 @@ use Rattle.dk_pqmodel.specs.Datum.{Value, Datum, null, atom, group, list, Cells,
 use Rattle.dk_pqmodel.specs.Triples.{joined, cell_triples, group_triples, list_triples, later_triples, empty_columns, triples}
 use Rattle.dk_pqmodel.specs.Fits.{AreTriplesOf, Matches, MatchEach, MatchAll, is_of_kind}
 use Rattle.dk_levels.specs.Places.{from}
-use Rattle.dk_levels.specs.Reading.{begins, at_definition, at_repetition, first_entry, column_length, nothing_at, leaf_at, Reader, later_at, list_at, pair_at, present_at, cell_at, each_at, all_empty, rows_at}
+use Rattle.dk_levels.specs.Reading.{begins, at_definition, at_repetition, first_entry, column_length, nothing_at, leaf_at, Reader, later_at, list_cells_at, pair_at, present_at, cell_at, cells_at, all_empty, rows_at}
 use Rattle.dk_levels.specs.Solid.{IsSolid, IsSolidShape, AreSolid, IsReadable}
 use Rattle.dk_levels.proofs.Joins.{joined-nothing, length-joined}
 use Rattle.dk_levels.proofs.Begins.{Low, begin_cell, begin_group, low-joined, low-from, low_begin, low_later, low_raise, same_repetition, other_definition, lower_repetition, same_definition, behind, beside, empties, joined_longer, entry_again, wide, wide_shape, count, count_column}
@@ -52,7 +52,7 @@ later_again f read d j place w back (one_cell x cs) (suc n) rest h c room low en
 list_again : (f : Field) (first later : Reader) (r d k place : ℕ) → 0 < width_in f → r ≤ k
     → ReadsBack first f r (d + 1) (k + 1) place → ReadsBack later f (k + 1) (d + 1) (k + 1) place → (cs : Cells) (rest : List Column)
     → MatchAll cs f → place + width_in f ≤ length rest → Low k rest
-    → list_at first later (width_in f) r d k place (joined (from place (list_triples cs f r d k)) rest) ≡ Some (cs, rest)
+    → list_cells_at first later (width_in f) r d k place (joined (from place (list_triples cs f r d k)) rest) ≡ Some (cs, rest)
 list_again (field name b s) first later r d k place w rk one more no_cells rest h room low =
     rw (same_definition place r d _ None rest w) (rw (nothing_again _ r d place rest room) refl)
 list_again f first later r d k place w rk one more (one_cell x cs) rest h room low =
@@ -115,9 +115,9 @@ mutual
             (record { back = λ c more fits long deep. cell_again f c (k + 1) (d + 1) (k + 1) (place + 1) more solid (omega arith) fits long deep }) c more fits long deep;
       } in
       let w : width_in (entry f) ≡ 1 + width_in f = omega arith in
-      let found : list_at first later (width_in (entry f)) r d k place (joined (from place (list_triples cs (entry f) r d k)) rest) ≡ Some (cs, rest) =
+      let found : list_cells_at first later (width_in (entry f)) r d k place (joined (from place (list_triples cs (entry f) r d k)) rest) ≡ Some (cs, rest) =
       list_again (entry f) first later r d k place (omega arith) rk one more cs rest h (omega arith) low in
-      ap (option_map (λ p. (list p.0, p.1))) (ap (λ n. list_at first later n r d k place (joined (from place (list_triples cs (entry f) r d k)) rest)) (sym w) ∙ found)
+      ap (option_map (λ p. (list p.0, p.1))) (ap (λ n. list_cells_at first later n r d k place (joined (from place (list_triples cs (entry f) r d k)) rest)) (sym w) ∙ found)
   present_again s null r d k place rest solid rk h room low = cc
   present_again (shape.leaf l) (group cs) r d k place rest solid rk h room low = absurd h
   present_again (shape.leaf l) (list cs) r d k place rest solid rk h room low = absurd h
@@ -144,7 +144,7 @@ mutual
       rw (not_null s (list cs) r d k place rest solid h) (present_again s (list cs) r (d + 1) k place rest solid rk h room low)
 
   pub each_again : (fs : Fields) (cs : Cells) (r d k place : ℕ) (rest : List Column) → AreSolid fs → r ≤ k → MatchEach cs fs
-      → place + width_of fs ≤ length rest → Low k rest → each_at fs r d k place (joined (from place (group_triples cs fs r d k)) rest) ≡ Some (cs, rest)
+      → place + width_of fs ≤ length rest → Low k rest → cells_at fs r d k place (joined (from place (group_triples cs fs r d k)) rest) ≡ Some (cs, rest)
   each_again no_fields no_cells r d k place rest solid rk h room low = ap (λ x. Some (no_cells, x)) (empties place rest (omega arith))
   each_again no_fields (one_cell c cs) r d k place rest solid rk h room low = absurd h
   each_again (one_field f fs) no_cells r d k place rest solid rk h room low = absurd h

@@ -14,9 +14,10 @@ use Rattle.dk_levels.specs.declared.levels.Repeated.{Repeated}
 use Rattle.dk_levels.specs.declared.levels.Repeated.TheVariants.{Elements, Entries}
 use Rattle.dk_pqmodel.specs.declared.node.Node.{Node}
 use Rattle.dk_pqmodel.specs.declared.row.Cell.{Cell}
-use Rattle.dk_levels.specs.Reading.{taken, first_entry, none_at, nothing_at, ◌>>=◌, Reader, later_at, list_at, present_at, each_at, cell_at}
+use Rattle.dk_levels.specs.Reading.{taken, first_entry, none_at, nothing_at, ◌>>=◌, Reader, later_at, list_cells_at, present_at, cells_at, cell_at}
 use Rattle.dk_levels.specs.Solid.{IsSolid, AreSolid}
-use Rattle.dk_levels.specs.Fronts.{fronts, front_of, element_at, element_width, with_front, Fails}
+use Rattle.dk_levels.specs.Fronts.{fronts, front_of, repeated_at, element_width, cells_before}
+use Rattle.dk_levels.specs.Answers.{FailsMeant}
 use Rattle.dk_pqmodel.specs.declared.fault.PqFault.{PqFault}
 use Rattle.dk_pqmodel.specs.declared.fault.PqFault.TheVariants.{NotParquet, Shape, Compressed, Encoding, Broken, OutOfMemory}
 use Rattle.dk_levels.proofs.Begins.{taken_suc, wide}
@@ -66,19 +67,19 @@ appended_nothing no_cells = refl
 appended_nothing (one_cell c cs) = ap (one_cell c) (appended_nothing cs)
 
 moved : (cs : List Cell) (c : Cell) (o : Option (Cells × List Column))
-    → with_front (cells_of (cs ++ c ∷ [])) o ≡ with_front (cells_of cs) (o >>= λ more. Some (one_cell (datum_of c) more.0, more.1))
+    → cells_before (cells_of (cs ++ c ∷ [])) o ≡ cells_before (cells_of cs) (o >>= λ more. Some (one_cell (datum_of c) more.0, more.1))
 moved cs c None = refl
 moved cs c (Some p) = ap (λ x. Some (x, p.1)) (appended_push cs c p.0)
 
 -- one more cell of a group
 pub each_step : (ns : List Node) (i : ℕ) (n : Node) (cs now : List Cell) (c : Cell) (before after : List Column) (r d k place next : ℕ) (total : Option (Cells × List Column))
     → i < length ns → n ≡ get_or ns i n → cell_at (field_of n) r d k place before ≡ Some (datum_of c, after) → now ≡ cs ++ c ∷ [] → next ≡ place + width_in (field_of n)
-    → with_front (cells_of cs) (each_at (fields_of (drop i ns)) r d k place before) ≡ total
-    → with_front (cells_of now) (each_at (fields_of (drop (i + 1) ns)) r d k next after) ≡ total
+    → cells_before (cells_of cs) (cells_at (fields_of (drop i ns)) r d k place before) ≡ total
+    → cells_before (cells_of now) (cells_at (fields_of (drop (i + 1) ns)) r d k next after) ≡ total
 each_step ns i n cs now c before after r d k place next total h is read pushed at p =
-    ap (λ x. with_front (cells_of x) (each_at (fields_of (drop (i + 1) ns)) r d k next after)) pushed
-    ∙ ap (λ x. with_front (cells_of (cs ++ c ∷ [])) (each_at (fields_of (drop (i + 1) ns)) r d k x after)) at
-    ∙ moved cs c (each_at (fields_of (drop (i + 1) ns)) r d k (place + width_in (field_of n)) after)
+    ap (λ x. cells_before (cells_of x) (cells_at (fields_of (drop (i + 1) ns)) r d k next after)) pushed
+    ∙ ap (λ x. cells_before (cells_of (cs ++ c ∷ [])) (cells_at (fields_of (drop (i + 1) ns)) r d k x after)) at
+    ∙ moved cs c (cells_at (fields_of (drop (i + 1) ns)) r d k (place + width_in (field_of n)) after)
     ∙ (rw (fields_of-drop ns i n h is, read) at p)
 
 pub nothing_step : (end i r d : ℕ) (cs rest : List Column) (total : Option (List Column)) → i < end → none_at r d i cs ≡ Some rest
@@ -90,7 +91,7 @@ nothing_step end i r d cs rest total h one p =
 
 -- the cells of the fields that are left
 pub record EachLeft (nodes : List Node) (cells : List Cell) (now : List Column) (r d k next : ℕ) (total : Option (Cells × List Column)) (end : ℕ) : Type 0 where
-  pub reads : with_front (cells_of cells) (each_at (fields_of nodes) r d k next now) ≡ total
+  pub reads : cells_before (cells_of cells) (cells_at (fields_of nodes) r d k next now) ≡ total
   pub solid : AreSolid (fields_of nodes)
   pub deep : d + deepest_of (fields_of nodes) < 256
   pub ends : next + width_of (fields_of nodes) ≡ end
@@ -118,7 +119,7 @@ pub each_left_end : (ns : List Node) (i : ℕ) (cs : List Cell) (now : List Colu
     → length ns ≤ i → EachLeft (drop i ns) cs now r d k next total end → total ≡ Some (cells_of cs, now)
 each_left_end ns i cs now r d k next end total h p =
     let e : drop i ns ≡ [] = drop_all i ns h in
-    let q : with_front (cells_of cs) (Some (no_cells, now)) ≡ total = rw e at p.reads in
+    let q : cells_before (cells_of cs) (Some (no_cells, now)) ≡ total = rw e at p.reads in
     sym q ∙ ap (λ x. Some (x, now)) (appended_nothing (cells_of cs))
 
 pub each_left_next : (ns : List Node) (i : ℕ) (cs : List Cell) (now : List Column) (r d k next end : ℕ) (total : Option (Cells × List Column))
@@ -130,12 +131,12 @@ each_left_next ns i cs now r d k next end total h p =
 -- ---- the elements that follow
 
 pub later_done : (read : Reader) (goes : List Column → Bool) (n : ℕ) (cs : List Column) (front : Cells) (total : Option (Cells × List Column))
-    → goes cs ≡ false → with_front front (later_at read goes n cs) ≡ total → total ≡ Some (front, cs)
+    → goes cs ≡ false → cells_before front (later_at read goes n cs) ≡ total → total ≡ Some (front, cs)
 later_done read goes zero cs front total g p = let q : Some (appended front no_cells, cs) ≡ total = rw g at p in sym q ∙ ap (λ x. Some (x, cs)) (appended_nothing front)
 later_done read goes (suc n) cs front total g p = let q : Some (appended front no_cells, cs) ≡ total = rw g at p in sym q ∙ ap (λ x. Some (x, cs)) (appended_nothing front)
 
 pub later_fails : (read : Reader) (goes : List Column → Bool) (most i : ℕ) (cs : List Column) (front : Cells) (total : Option (Cells × List Column)) (e : PqFault)
-    → goes cs ≡ true → i < most → Fails e (read cs) → with_front front (later_at read goes (most - i) cs) ≡ total → Fails e total
+    → goes cs ≡ true → i < most → FailsMeant e (read cs) → cells_before front (later_at read goes (most - i) cs) ≡ total → FailsMeant e total
 later_fails read goes most i cs front total OutOfMemory g h bad p = tt
 later_fails read goes most i cs front total NotParquet g h bad p = absurd bad
 later_fails read goes most i cs front total (Shape c) g h bad p = absurd bad
@@ -143,28 +144,28 @@ later_fails read goes most i cs front total (Compressed c n) g h bad p = absurd 
 later_fails read goes most i cs front total (Encoding c n) g h bad p = absurd bad
 later_fails read goes most i cs front total Broken g h bad p =
     let e : most - i ≡ suc (most - (i + 1)) = omega arith in
-    let q : with_front front (later_at read goes (suc (most - (i + 1))) cs) ≡ total = ap (λ n. with_front front (later_at read goes n cs)) (sym e) ∙ p in
+    let q : cells_before front (later_at read goes (suc (most - (i + 1))) cs) ≡ total = ap (λ n. cells_before front (later_at read goes n cs)) (sym e) ∙ p in
     sym (rw (g, bad) at q)
 
 pub later_more : (read : Reader) (goes : List Column → Bool) (most i : ℕ) (before after : List Column) (cs now : List Cell) (c : Cell) (total : Option (Cells × List Column))
     → goes before ≡ true → i < most → read before ≡ Some (datum_of c, after) → now ≡ cs ++ c ∷ []
-    → with_front (cells_of cs) (later_at read goes (most - i) before) ≡ total → with_front (cells_of now) (later_at read goes (most - (i + 1)) after) ≡ total
+    → cells_before (cells_of cs) (later_at read goes (most - i) before) ≡ total → cells_before (cells_of now) (later_at read goes (most - (i + 1)) after) ≡ total
 later_more read goes most i before after cs now c total g h got pushed p =
     let e : most - i ≡ suc (most - (i + 1)) = omega arith in
-    let q : with_front (cells_of cs) (later_at read goes (suc (most - (i + 1))) before) ≡ total = ap (λ n. with_front (cells_of cs) (later_at read goes n before)) (sym e) ∙ p in
-    ap (λ x. with_front (cells_of x) (later_at read goes (most - (i + 1)) after)) pushed ∙ moved cs c (later_at read goes (most - (i + 1)) after) ∙ (rw (g, got) at q)
+    let q : cells_before (cells_of cs) (later_at read goes (suc (most - (i + 1))) before) ≡ total = ap (λ n. cells_before (cells_of cs) (later_at read goes n before)) (sym e) ∙ p in
+    ap (λ x. cells_before (cells_of x) (later_at read goes (most - (i + 1)) after)) pushed ∙ moved cs c (later_at read goes (most - (i + 1)) after) ∙ (rw (g, got) at q)
 
 -- ---- a list's kind
 
 pub at_List : (b : Box Node Global) (r d k place : ℕ) (cs : List Column)
-    → present_at (shape_of (node.List b)) r d k place cs ≡ option_map (λ p. (list p.0, p.1)) (list_at (element_at Elements (field_of b.value) r (d + 1) (k + 1) place) (element_at Elements (field_of b.value) (k + 1) (d + 1) (k + 1) place) (element_width Elements (field_of b.value)) r d k place cs)
+    → present_at (shape_of (node.List b)) r d k place cs ≡ option_map (λ p. (list p.0, p.1)) (list_cells_at (repeated_at Elements (field_of b.value) r (d + 1) (k + 1) place) (repeated_at Elements (field_of b.value) (k + 1) (d + 1) (k + 1) place) (element_width Elements (field_of b.value)) r d k place cs)
 at_List b r d k place cs = rw (shape_of-List b) refl
 
 pub at_Map : (b : Box Node Global) (r d k place : ℕ) (cs : List Column)
-    → present_at (shape_of (node.Map b)) r d k place cs ≡ option_map (λ p. (list p.0, p.1)) (list_at (element_at Entries (field_of b.value) r (d + 1) (k + 1) place) (element_at Entries (field_of b.value) (k + 1) (d + 1) (k + 1) place) (element_width Entries (field_of b.value)) r d k place cs)
+    → present_at (shape_of (node.Map b)) r d k place cs ≡ option_map (λ p. (list p.0, p.1)) (list_cells_at (repeated_at Entries (field_of b.value) r (d + 1) (k + 1) place) (repeated_at Entries (field_of b.value) (k + 1) (d + 1) (k + 1) place) (element_width Entries (field_of b.value)) r d k place cs)
 at_Map b r d k place cs = rw (shape_of-Map b) refl
 
-pub list_failed : (e : PqFault) (o : Option (Cells × List Column)) → Fails e o → Fails {Y = Datum × List Column} e (option_map (λ p. (list p.0, p.1)) o)
+pub list_failed : (e : PqFault) (o : Option (Cells × List Column)) → FailsMeant e o → FailsMeant {Y = Datum × List Column} e (option_map (λ p. (list p.0, p.1)) o)
 list_failed OutOfMemory o h = tt
 list_failed NotParquet o h = absurd h
 list_failed (Shape c) o h = absurd h
@@ -179,19 +180,19 @@ rows_push [] row more = refl
 rows_push (x ∷ rows) row more = ap (one_cell (group (cells_of x.cells.items))) (rows_push rows row more)
 
 moved_rows : (rows : List Row) (row : Row) (o : Option (Cells × List Column))
-    → with_front (rows_of (rows ++ row ∷ [])) o ≡ with_front (rows_of rows) (o >>= λ more. Some (one_cell (group (cells_of row.cells.items)) more.0, more.1))
+    → cells_before (rows_of (rows ++ row ∷ [])) o ≡ cells_before (rows_of rows) (o >>= λ more. Some (one_cell (group (cells_of row.cells.items)) more.0, more.1))
 moved_rows rows row None = refl
 moved_rows rows row (Some p) = ap (λ x. Some (x, p.1)) (rows_push rows row p.0)
 
 pub rows_more : (read : Reader) (goes : List Column → Bool) (most i : ℕ) (before after : List Column) (rows now : List Row) (row : Row) (total : Option (Cells × List Column))
     → goes before ≡ true → i < most → read before ≡ Some (group (cells_of row.cells.items), after) → now ≡ rows ++ row ∷ []
-    → with_front (rows_of rows) (later_at read goes (most - i) before) ≡ total → with_front (rows_of now) (later_at read goes (most - (i + 1)) after) ≡ total
+    → cells_before (rows_of rows) (later_at read goes (most - i) before) ≡ total → cells_before (rows_of now) (later_at read goes (most - (i + 1)) after) ≡ total
 rows_more read goes most i before after rows now row total g h got pushed p =
     let e : most - i ≡ suc (most - (i + 1)) = omega arith in
-    let q : with_front (rows_of rows) (later_at read goes (suc (most - (i + 1))) before) ≡ total = ap (λ n. with_front (rows_of rows) (later_at read goes n before)) (sym e) ∙ p in
-    ap (λ x. with_front (rows_of x) (later_at read goes (most - (i + 1)) after)) pushed ∙ moved_rows rows row (later_at read goes (most - (i + 1)) after) ∙ (rw (g, got) at q)
+    let q : cells_before (rows_of rows) (later_at read goes (suc (most - (i + 1))) before) ≡ total = ap (λ n. cells_before (rows_of rows) (later_at read goes n before)) (sym e) ∙ p in
+    ap (λ x. cells_before (rows_of x) (later_at read goes (most - (i + 1)) after)) pushed ∙ moved_rows rows row (later_at read goes (most - (i + 1)) after) ∙ (rw (g, got) at q)
 
-pub fails_map : (e : PqFault) (o : Option (Cells × List Column)) → Fails e o → Fails {Y = Datum × List Column} e (option_map (λ p. (group p.0, p.1)) o)
+pub fails_map : (e : PqFault) (o : Option (Cells × List Column)) → FailsMeant e o → FailsMeant {Y = Datum × List Column} e (option_map (λ p. (group p.0, p.1)) o)
 fails_map OutOfMemory o h = tt
 fails_map NotParquet o h = absurd h
 fails_map (Shape c) o h = absurd h

@@ -8,7 +8,7 @@ use Rattle.dk_pqmodel.specs.Datum.{Value, Datum, null, atom, group, list, Cells,
 use Rattle.dk_pqmodel.specs.Triples.{joined, cell_triples, group_triples, list_triples, later_triples, empty_columns, triples}
 use Rattle.dk_pqmodel.specs.Fits.{Matches, MatchEach, MatchAll}
 use Rattle.dk_levels.specs.Places.{from}
-use Rattle.dk_levels.specs.Reading.{begins, at_definition, at_repetition, taken, first_entry, guarded, ◌>>=◌, nothing_at, some_at, none_at, leaf_at, Reader, later_at, list_at, pair_at, present_at, cell_at, each_at, all_empty, rows_at}
+use Rattle.dk_levels.specs.Reading.{begins, at_definition, at_repetition, taken, first_entry, guarded, ◌>>=◌, nothing_at, some_at, none_at, leaf_at, Reader, later_at, list_cells_at, pair_at, present_at, cell_at, cells_at, all_empty, rows_at}
 use Rattle.dk_levels.proofs.Begins.{behind, beside, empties}
 use Rattle.dk_levels.proofs.Again.{pads}
 use Rattle.dk_levels.proofs.Put.{length-cell_triples}
@@ -154,7 +154,7 @@ later_takes f read d j place reads (suc n) cs p room h =
     ]
 
 list_takes : (f : Field) (first later : Reader) (r d k place : ℕ) → ReadsCells first f r (d + 1) (k + 1) place → ReadsCells later f (k + 1) (d + 1) (k + 1) place
-    → (cs : List Column) (p : Cells × List Column) → place + width_in f ≤ length cs → list_at first later (width_in f) r d k place cs ≡ Some p → TakesList cs f r d k place p
+    → (cs : List Column) (p : Cells × List Column) → place + width_in f ≤ length cs → list_cells_at first later (width_in f) r d k place cs ≡ Some p → TakesList cs f r d k place p
 list_takes (field name b s) first later r d k place one more cs p room h =
     let f : Field = field name b s in
     elim (chosen (begins (at_definition d) cs place) _ _ (Some p) h) [
@@ -213,7 +213,7 @@ mutual
             (record { reads = λ ds q l e. cell_takes f (k + 1) (d + 1) (k + 1) (place + 1) ds q l e }) ds q l e;
       } in
       let w : 1 + width_in f ≡ width_in (entry f) = omega arith in
-      let t = list_takes (entry f) first later r d k place one more cs m.0 (omega arith) (ap (λ n. list_at first later n r d k place cs) (sym w) ∙ m.1) in
+      let t = list_takes (entry f) first later r d k place one more cs m.0 (omega arith) (ap (λ n. list_cells_at first later n r d k place cs) (sym w) ∙ m.1) in
       subst (TakesCell cs (field [] false (shape.dictionary f)) r d k place) m.2 (record { fits = t.fits; takes = t.takes })
 
   pub cell_takes : (f : Field) (r d k place : ℕ) (cs : List Column) (p : Datum × List Column) → place + width_in f ≤ length cs → cell_at f r d k place cs ≡ Some p → TakesCell cs f r d k place p
@@ -228,7 +228,7 @@ mutual
             record { fits = l.0; takes = subst (λ ts. Takes cs place ts p.1) l.1 t.takes })
       ]
 
-  pub each_takes : (fs : Fields) (r d k place : ℕ) (cs : List Column) (p : Cells × List Column) → place + width_of fs ≤ length cs → each_at fs r d k place cs ≡ Some p → TakesEach cs fs r d k place p
+  pub each_takes : (fs : Fields) (r d k place : ℕ) (cs : List Column) (p : Cells × List Column) → place + width_of fs ≤ length cs → cells_at fs r d k place cs ≡ Some p → TakesEach cs fs r d k place p
   each_takes no_fields r d k place cs p room h =
       subst (TakesEach cs no_fields r d k place) (some_is _ _ h) (record { fits = tt; takes = record { whole = sym (empties place cs (omega arith)); long = refl } })
   each_takes (one_field f fs) r d k place cs p room h =

@@ -1,12 +1,10 @@
 -- What is left of each column, and what a function that reads there gives.
-use Rattle.std.specs.Prelude.{◌≡◌, ℕ, ◌+◌, List, map, reverse, Option, Some, None, Result, Ok, Err, ⊤, option_map, Vec}
+use Rattle.std.specs.Prelude.{ℕ, ◌+◌, List, map, reverse, Option, option_map, Vec}
 use Rattle.std.specs.declared.alloc.Global.{Global}
 use Rattle.dk_pqmodel.specs.Shape.{Field, width_in}
 use Rattle.dk_pqmodel.specs.Datum.{Column, Cells, appended}
 use Rattle.dk_pqmodel.specs.ColumnView.{entry_of}
 use Rattle.dk_pqmodel.specs.declared.columns.Triple.{Triple}
-use Rattle.dk_pqmodel.specs.declared.fault.PqFault.{PqFault}
-use Rattle.dk_pqmodel.specs.declared.fault.PqFault.TheVariants.{Broken, OutOfMemory}
 use Rattle.dk_levels.specs.declared.levels.Repeated.{Repeated}
 use Rattle.dk_levels.specs.declared.levels.Repeated.TheVariants.{Elements, Entries}
 use Rattle.dk_levels.specs.Reading.{Reader, cell_at, pair_at}
@@ -18,31 +16,15 @@ front_of v = map entry_of (reverse v.items)
 abbrev pub fronts : List (Vec Triple Global) → List Column
 fronts rest = map front_of rest
 
--- Reading columns fails where they are broken, or memory runs out, and from no other cause.
-abbrev pub Fails : {Y : Type 0} → PqFault → Option Y → Type 0
-Fails Broken read = read ≡ None
-Fails OutOfMemory read = ⊤
-Fails fault read = ⊥
-
-abbrev pub IsBrokenOrMemory : PqFault → Type 0
-IsBrokenOrMemory Broken = ⊤
-IsBrokenOrMemory OutOfMemory = ⊤
-IsBrokenOrMemory fault = ⊥
-
--- the value that reading gives, seen by view, unless memory ran out
-abbrev pub Gives : {X Y : Type 0} → (X → Y) → Result X PqFault → Option Y → Type 0
-Gives view (Ok x) read = read ≡ Some (view x)
-Gives view (Err e) read = Fails e read
-
 -- an element of a list, or an entry of a map
-abbrev pub element_at : Repeated → Field → ℕ → ℕ → ℕ → ℕ → Reader
-element_at Elements f r d k place = cell_at f r d k place
-element_at Entries f r d k place = pair_at (cell_at f r d k (place + 1)) r d place
+abbrev pub repeated_at : Repeated → Field → ℕ → ℕ → ℕ → ℕ → Reader
+repeated_at Elements f r d k place = cell_at f r d k place
+repeated_at Entries f r d k place = pair_at (cell_at f r d k (place + 1)) r d place
 
 abbrev pub element_width : Repeated → Field → ℕ
 element_width Elements f = width_in f
 element_width Entries f = 1 + width_in f
 
 -- cells before those that are read next
-abbrev pub with_front : Cells → Option (Cells × List Column) → Option (Cells × List Column)
-with_front front read = option_map (λ p. (appended front p.0, p.1)) read
+abbrev pub cells_before : Cells → Option (Cells × List Column) → Option (Cells × List Column)
+cells_before front read = option_map (λ p. (appended front p.0, p.1)) read

@@ -1,3 +1,4 @@
+pub mod Answers
 pub mod Borrowed
 pub mod Fronts
 pub mod Laws

@@ -70,8 +70,8 @@ later_at read goes_on (suc n) cs =
     if goes_on cs then (read cs >>= λ c. later_at read goes_on n c.1 >>= λ more. Some (one_cell c.0 more.0, more.1)) else Some (no_cells, cs)
 
 -- a list by its first element and the later ones
-abbrev pub list_at : Reader → Reader → ℕ → ℕ → ℕ → ℕ → ℕ → List Column → Option (Cells × List Column)
-list_at first later w r d k place cs =
+abbrev pub list_cells_at : Reader → Reader → ℕ → ℕ → ℕ → ℕ → ℕ → List Column → Option (Cells × List Column)
+list_cells_at first later w r d k place cs =
     if begins (at_definition d) cs place
     then (nothing_at w r d place cs >>= λ rest. Some (no_cells, rest))
     else (first cs >>= λ c. later_at later (λ ds. begins (at_repetition (k + 1)) ds place) (column_length c.1 place) c.1 >>= λ more. Some (one_cell c.0 more.0, more.1))
@@ -84,12 +84,12 @@ pair_at value r d place cs =
 abbrev mutual
   pub present_at : Shape → ℕ → ℕ → ℕ → ℕ → Reader
   present_at (shape.leaf l) r d k place cs = leaf_at l r d place cs
-  present_at (shape.group fs) r d k place cs = option_map (λ p. (group p.0, p.1)) (each_at fs r d k place cs)
+  present_at (shape.group fs) r d k place cs = option_map (λ p. (group p.0, p.1)) (cells_at fs r d k place cs)
   present_at (shape.list f) r d k place cs =
-      option_map (λ p. (list p.0, p.1)) (list_at (cell_at f r (d + 1) (k + 1) place) (cell_at f (k + 1) (d + 1) (k + 1) place) (width_in f) r d k place cs)
+      option_map (λ p. (list p.0, p.1)) (list_cells_at (cell_at f r (d + 1) (k + 1) place) (cell_at f (k + 1) (d + 1) (k + 1) place) (width_in f) r d k place cs)
   present_at (shape.dictionary f) r d k place cs =
       option_map (λ p. (list p.0, p.1))
-      (list_at (pair_at (cell_at f r (d + 1) (k + 1) (place + 1)) r (d + 1) place) (pair_at (cell_at f (k + 1) (d + 1) (k + 1) (place + 1)) (k + 1) (d + 1) place) (1 + width_in f) r d k place cs)
+      (list_cells_at (pair_at (cell_at f r (d + 1) (k + 1) (place + 1)) r (d + 1) place) (pair_at (cell_at f (k + 1) (d + 1) (k + 1) (place + 1)) (k + 1) (d + 1) place) (1 + width_in f) r d k place cs)
 
   pub cell_at : Field → ℕ → ℕ → ℕ → ℕ → Reader
   cell_at (field name nullable s) r d k place cs =
@@ -97,10 +97,10 @@ abbrev mutual
       then (nothing_at (width_at s) r d place cs >>= λ rest. Some (null, rest))
       else present_at s r (if nullable then d + 1 else d) k place cs
 
-  pub each_at : Fields → ℕ → ℕ → ℕ → ℕ → List Column → Option (Cells × List Column)
-  each_at no_fields r d k place cs = Some (no_cells, cs)
-  each_at (one_field f fs) r d k place cs =
-      cell_at f r d k place cs >>= λ c. each_at fs r d k (place + width_in f) c.1 >>= λ more. Some (one_cell c.0 more.0, more.1)
+  pub cells_at : Fields → ℕ → ℕ → ℕ → ℕ → List Column → Option (Cells × List Column)
+  cells_at no_fields r d k place cs = Some (no_cells, cs)
+  cells_at (one_field f fs) r d k place cs =
+      cell_at f r d k place cs >>= λ c. cells_at fs r d k (place + width_in f) c.1 >>= λ more. Some (one_cell c.0 more.0, more.1)
 
 abbrev pub all_empty : List Column → Bool
 all_empty [] = true

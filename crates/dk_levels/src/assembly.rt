@@ -10,7 +10,8 @@ ghost use Rattle.dk_pqmodel.specs.Datum.{Cells};
 ghost use Rattle.dk_pqmodel.specs.Fits.{AreTriplesOf};
 ghost use Rattle.dk_levels.specs.Reading.{begins, at_repetition, later_at, cell_at, rows_at, column_length, end_at};
 ghost use Rattle.dk_levels.specs.Solid.{IsReadable};
-ghost use Rattle.dk_levels.specs.Fronts.{fronts, Gives, IsBrokenOrMemory};
+ghost use Rattle.dk_levels.specs.Fronts.{fronts};
+ghost use Rattle.dk_levels.specs.Answers.{GivesMeant, IsBrokenOrMemory};
 
 use crate::fronts::{is_all_read, is_at_repetition, triples_left, turn};
 use crate::levels::TOP;
@@ -19,12 +20,11 @@ use crate::width::columns_left;
 use dk_pqmodel::{Columns, Node, PqFault, Row, Schema, Triple};
 use std::alloc::Global;
 
-/// The rows whose triples the columns are.
+/// The rows whose triples the columns are, one for each leaf of the schema, in its order (Apache Parquet, "Nested Encoding").
 ///
-/// Numbers are given as they stand, at an `Int32` too. `Broken` comes exactly where the columns are
-/// the triples of no rows: other columns than the schema's leaves, a level above the greatest, a
-/// repetition in a first triple, a list that goes on in one column and not in its neighbour, a
-/// value where a null stands or of another kind. `OutOfMemory` is the only other fault.
+/// Numbers are given as they stand, at an `Int32` too. `Broken` comes exactly where the columns are the triples of no rows: other
+/// columns than the schema's leaves, a level above the greatest, a repetition in a first triple, a list that goes on in one column
+/// and not in its neighbour, a value where a null stands or of another kind. `OutOfMemory` is the only other fault.
 pub fn assemble(alloc: Global, schema: &Schema, columns: &Columns) -> Result<Vec<Row>, PqFault>
     // The columns are the triples of the rows that are answered.
     ensures found { IfOk result (λ v. AreTriplesOf (fields_in schema.now) (rows_of v.items) (columns_in columns.now)) }
@@ -51,7 +51,7 @@ pub fn assemble_nodes(alloc: Global, nodes: &[Node], columns: Columns) -> Result
 
 fn read_all(nodes: &[Node], alloc: Global, columns: Columns) -> Result<Vec<Row>, PqFault>
     requires { IsReadable (fields_of nodes.now) }
-    ensures { Gives (λ v. rows_of v.items) result (rows_at (fields_of nodes.now) (columns_in columns)) }
+    ensures { GivesMeant (λ v. rows_of v.items) result (rows_at (fields_of nodes.now) (columns_in columns)) }
 {
     let mut rest = columns.leaves;
     if columns_left(nodes, rest.len()) != Some(0) {
@@ -64,7 +64,7 @@ fn read_all(nodes: &[Node], alloc: Global, columns: Columns) -> Result<Vec<Row>,
 fn read_to_end(nodes: &[Node], alloc: Global, rest: &mut [Vec<Triple>]) -> Result<Vec<Row>, PqFault>
     requires readable { IsReadable (fields_of nodes.now) }
     requires room { width_of (fields_of nodes.now) ≤ length rest.old }
-    ensures { Gives (λ v. rows_of v.items) result (end_at (fields_of nodes.now) (fronts rest.old)) }
+    ensures { GivesMeant (λ v. rows_of v.items) result (end_at (fields_of nodes.now) (fronts rest.old)) }
 {
     let rows = read_rows(nodes, alloc, rest)?;
     if is_all_read(rest) {
@@ -77,7 +77,7 @@ fn read_to_end(nodes: &[Node], alloc: Global, rest: &mut [Vec<Triple>]) -> Resul
 fn read_rows(nodes: &[Node], alloc: Global, rest: &mut [Vec<Triple>]) -> Result<Vec<Row>, PqFault>
     requires readable { IsReadable (fields_of nodes.now) }
     requires room { width_of (fields_of nodes.now) ≤ length rest.old }
-    ensures { Gives (λ v. (rows_of v.items, fronts rest.new)) result
+    ensures { GivesMeant (λ v. (rows_of v.items, fronts rest.new)) result
         (later_at (cell_at (root (fields_of nodes.now)) 0 0 0 0) (λ ds. begins (at_repetition 0) ds 0) (column_length (fronts rest.old) 0) (fronts rest.old)) }
 {
     let mut rows = Vec::new(alloc);

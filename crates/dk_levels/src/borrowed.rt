@@ -8,7 +8,7 @@ use dk_pqmodel::{Columns, Triple, Value};
 use std::alloc::{AllocError, Global};
 
 /// What a leaf of rows holds. That it may hold nothing is a case of its own here, as a triple is smaller so.
-#[derive(Clone, Copy, Debug)]
+#[derive(Clone, Copy)]
 pub enum BorrowedValue<'a> {
     Null,
     Flag(bool),
@@ -17,7 +17,7 @@ pub enum BorrowedValue<'a> {
 }
 
 /// One entry of a column of rows, as a `Triple` is, but that its text is that of the rows.
-#[derive(Clone, Copy, Debug)]
+#[derive(Clone, Copy)]
 pub struct BorrowedTriple<'a> {
     /// How many lists go on here: 0 begins a row, the number k begins a later element of the k-th list around the leaf.
     pub repetition: u8,

@@ -6,7 +6,8 @@
 ghost use Rattle.std.specs.Prelude.{◌≡◌, ◌+◌, ◌<◌, ◌≤◌, length, MatchOption, None, Some};
 ghost use Rattle.dk_pqmodel.specs.ColumnView.{entry_of, columns_of, value_of};
 ghost use Rattle.dk_levels.specs.Reading.{begins, at_definition, at_repetition, first_entry, none_at, nothing_at, some_at, column_length, all_empty};
-ghost use Rattle.dk_levels.specs.Fronts.{fronts, Gives};
+ghost use Rattle.dk_levels.specs.Fronts.{fronts};
+ghost use Rattle.dk_levels.specs.Answers.{GivesMeant};
 
 use crate::levels::Levels;
 use dk_pqmodel::{PqFault, Triple, Value};
@@ -67,7 +68,7 @@ pub fn take_nothing(
     levels: Levels,
 ) -> Result<(), PqFault>
     requires { place + width ≤ length rest.old }
-    ensures { Gives (λ _. fronts rest.new) result (nothing_at width levels.repetition levels.definition place (fronts rest.old)) }
+    ensures { GivesMeant (λ _. fronts rest.new) result (nothing_at width levels.repetition levels.definition place (fronts rest.old)) }
 {
     for i in place..place + width {
         take_none(rest, i, levels)?;
@@ -77,7 +78,7 @@ pub fn take_nothing(
 
 fn take_none(rest: &mut [Vec<Triple>], place: usize, levels: Levels) -> Result<(), PqFault>
     requires { place < length rest.old }
-    ensures { Gives (λ _. fronts rest.new) result (none_at levels.repetition levels.definition place (fronts rest.old)) }
+    ensures { GivesMeant (λ _. fronts rest.new) result (none_at levels.repetition levels.definition place (fronts rest.old)) }
 {
     match take_first(rest, place) {
         Some(triple) => {
@@ -97,7 +98,7 @@ fn take_none(rest: &mut [Vec<Triple>], place: usize, levels: Levels) -> Result<(
 /// Takes the value of the column's next triple, which has these levels.
 pub fn take_value(rest: &mut [Vec<Triple>], place: usize, levels: Levels) -> Result<Value, PqFault>
     requires { place < length rest.old }
-    ensures { Gives (λ v. (value_of v, fronts rest.new)) result (some_at levels.repetition levels.definition place (fronts rest.old)) }
+    ensures { GivesMeant (λ v. (value_of v, fronts rest.new)) result (some_at levels.repetition levels.definition place (fronts rest.old)) }
 {
     match take_first(rest, place) {
         Some(triple) => {

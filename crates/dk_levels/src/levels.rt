@@ -7,7 +7,7 @@ ghost use Rattle.dk_pqmodel.specs.Triples.{reached};
 use dk_pqmodel::Node;
 
 /// The levels at a cell.
-#[derive(Clone, Copy, Debug)]
+#[derive(Clone, Copy)]
 pub struct Levels {
     /// The repetition level of the cell's first triple.
     pub repetition: u8,
@@ -18,7 +18,7 @@ pub struct Levels {
 }
 
 /// What a list or a map repeats: cells of its node, or entries of a key and a cell of its node.
-#[derive(Clone, Copy, Debug)]
+#[derive(Clone, Copy)]
 pub enum Repeated {
     Elements,
     Entries,

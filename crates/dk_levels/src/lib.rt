@@ -10,8 +10,6 @@ mod fronts;
 pub mod laws;
 mod levels;
 mod shredding;
-#[cfg(test)]
-mod tests;
 mod to_columns;
 mod to_rows;
 mod width;

@@ -18,10 +18,10 @@ use crate::to_columns::put_group;
 use dk_pqmodel::{Columns, Node, Row, Schema};
 use std::alloc::{AllocError, Global};
 
-/// The triples of the rows, column by column.
+/// The triples of the rows, one column for each leaf of the schema, in its order (Apache Parquet, "Nested Encoding").
 ///
-/// Rows that fit the schema have its form. The form alone is needed here: a number at an `Int32`
-/// may be of any size.
+/// Rows that fit the schema have its form. The form alone is needed here: a number at an `Int32` may be of any size. Want of memory
+/// is the one refusal.
 pub fn shred(alloc: Global, schema: &Schema, rows: &[Row]) -> Result<Columns, AllocError>
     requires { AreRowsOf (fields_in schema.now) (rows_of rows.now) }
     ensures { IfOk result (λ c. columns_in c ≡ triples (fields_in schema.now) (rows_of rows.now)) }
@@ -30,7 +30,7 @@ pub fn shred(alloc: Global, schema: &Schema, rows: &[Row]) -> Result<Columns, Al
     owned_columns(alloc, &columns)
 }
 
-/// The triples of the rows, column by column, with the texts of the rows.
+/// The triples of the rows as [`shred`] gives them, with the texts of the rows in place of copies.
 ///
 /// Each row has a triple or more in each column, so there is room for as many from the start.
 pub fn shred_borrowed<'a>(

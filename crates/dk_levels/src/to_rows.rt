@@ -8,9 +8,10 @@ ghost use Rattle.std.specs.Prelude.{◌≡◌, ◌+◌, ◌<◌, ◌≤◌, leng
 ghost use Rattle.dk_pqmodel.specs.NodeView.{field_of, fields_of, shape_of};
 ghost use Rattle.dk_pqmodel.specs.RowView.{datum_of, cells_of};
 ghost use Rattle.dk_pqmodel.specs.Shape.{width_at, width_in, width_of, deepest_at, deepest_in, deepest_of, chars};
-ghost use Rattle.dk_levels.specs.Reading.{begins, at_repetition, leaf_at, later_at, list_at, cell_at, each_at, column_length, present_at};
+ghost use Rattle.dk_levels.specs.Reading.{begins, at_repetition, leaf_at, later_at, list_cells_at, cell_at, cells_at, column_length, present_at};
 ghost use Rattle.dk_levels.specs.Solid.{IsSolid, IsSolidShape, AreSolid};
-ghost use Rattle.dk_levels.specs.Fronts.{fronts, Gives, element_at, element_width, with_front};
+ghost use Rattle.dk_levels.specs.Fronts.{fronts, repeated_at, element_width, cells_before};
+ghost use Rattle.dk_levels.specs.Answers.{GivesMeant};
 
 use crate::fronts::{is_at_definition, is_at_repetition, take_nothing, take_value, triples_left};
 use crate::levels::{Levels, Repeated, reach};
@@ -20,7 +21,7 @@ use std::alloc::{AllocError, Global};
 
 fn read_key(rest: &mut [Vec<Triple>], place: usize, levels: Levels) -> Result<Cell, PqFault>
     requires { place < length rest.old }
-    ensures { Gives (λ c. (datum_of c, fronts rest.new)) result (leaf_at chars levels.repetition levels.definition place (fronts rest.old)) }
+    ensures { GivesMeant (λ c. (datum_of c, fronts rest.new)) result (leaf_at chars levels.repetition levels.definition place (fronts rest.old)) }
 {
     match take_value(rest, place, levels)? {
         Value::Chars(text) => Ok(Cell::Chars(text)),
@@ -41,7 +42,7 @@ fn read_cell(
     requires room { place + width_in (field_of node.now) ≤ length rest.old }
     requires deep { levels.definition + deepest_in (field_of node.now) < 256 }
     requires lists { levels.lists ≤ levels.definition }
-    ensures cell { Gives (λ c. (datum_of c.0, fronts rest.new)) result
+    ensures cell { GivesMeant (λ c. (datum_of c.0, fronts rest.new)) result
         (cell_at (field_of node.now) levels.repetition levels.definition levels.lists place (fronts rest.old)) }
     ensures next { IfOk result (λ c. c.1 ≡ place + width_in (field_of node.now)) }
 {
@@ -66,7 +67,7 @@ fn read_present(
     requires room { place + width_at (shape_of kind.now) ≤ length rest.old }
     requires deep { levels.definition + deepest_at (shape_of kind.now) < 256 }
     requires lists { levels.lists ≤ levels.definition }
-    ensures cell { Gives (λ c. (datum_of c.0, fronts rest.new)) result
+    ensures cell { GivesMeant (λ c. (datum_of c.0, fronts rest.new)) result
         (present_at (shape_of kind.now) levels.repetition levels.definition levels.lists place (fronts rest.old)) }
     ensures next { IfOk result (λ c. c.1 ≡ place + width_at (shape_of kind.now)) }
 {
@@ -112,8 +113,8 @@ pub fn read_each(
     requires room { place + width_of (fields_of nodes.now) ≤ length rest.old }
     requires deep { levels.definition + deepest_of (fields_of nodes.now) < 256 }
     requires lists { levels.lists ≤ levels.definition }
-    ensures cells { Gives (λ v. (cells_of v.0.items, fronts rest.new)) result
-        (each_at (fields_of nodes.now) levels.repetition levels.definition levels.lists place (fronts rest.old)) }
+    ensures cells { GivesMeant (λ v. (cells_of v.0.items, fronts rest.new)) result
+        (cells_at (fields_of nodes.now) levels.repetition levels.definition levels.lists place (fronts rest.old)) }
     ensures next { IfOk result (λ v. v.1 ≡ place + width_of (fields_of nodes.now)) }
 {
     let mut cells = Vec::with_capacity(alloc, nodes.len())?;
@@ -140,9 +141,9 @@ fn read_list(
     requires room { place + element_width repeated (field_of node.now) ≤ length rest.old }
     requires deep { levels.definition + 1 + deepest_in (field_of node.now) < 256 }
     requires lists { levels.lists ≤ levels.definition }
-    ensures cells { Gives (λ v. (cells_of v.0.items, fronts rest.new)) result
-        (list_at (element_at repeated (field_of node.now) levels.repetition (levels.definition + 1) (levels.lists + 1) place)
-        (element_at repeated (field_of node.now) (levels.lists + 1) (levels.definition + 1) (levels.lists + 1) place)
+    ensures cells { GivesMeant (λ v. (cells_of v.0.items, fronts rest.new)) result
+        (list_cells_at (repeated_at repeated (field_of node.now) levels.repetition (levels.definition + 1) (levels.lists + 1) place)
+        (repeated_at repeated (field_of node.now) (levels.lists + 1) (levels.definition + 1) (levels.lists + 1) place)
         (element_width repeated (field_of node.now)) levels.repetition levels.definition levels.lists place (fronts rest.old)) }
     ensures next { IfOk result (λ v. v.1 ≡ place + element_width repeated (field_of node.now)) }
 {
@@ -184,9 +185,9 @@ fn read_later(
     requires deep { levels.definition + deepest_in (field_of node.now) < 256 }
     requires lists { levels.lists ≤ levels.definition }
     requires later { levels.repetition ≡ levels.lists }
-    ensures { Gives (λ _. (cells_of cells.new.items, fronts rest.new)) result
-        (with_front (cells_of cells.old.items)
-        (later_at (element_at repeated (field_of node.now) levels.lists levels.definition levels.lists place)
+    ensures { GivesMeant (λ _. (cells_of cells.new.items, fronts rest.new)) result
+        (cells_before (cells_of cells.old.items)
+        (later_at (repeated_at repeated (field_of node.now) levels.lists levels.definition levels.lists place)
         (λ ds. begins (at_repetition levels.lists) ds place) (column_length (fronts rest.old) place) (fronts rest.old))) }
 {
     let most = triples_left(rest, place);
@@ -217,8 +218,8 @@ fn read_element(
     requires room { place + element_width repeated (field_of node.now) ≤ length rest.old }
     requires deep { levels.definition + deepest_in (field_of node.now) < 256 }
     requires lists { levels.lists ≤ levels.definition }
-    ensures cell { Gives (λ c. (datum_of c.0, fronts rest.new)) result
-        (element_at repeated (field_of node.now) levels.repetition levels.definition levels.lists place (fronts rest.old)) }
+    ensures cell { GivesMeant (λ c. (datum_of c.0, fronts rest.new)) result
+        (repeated_at repeated (field_of node.now) levels.repetition levels.definition levels.lists place (fronts rest.old)) }
     ensures next { IfOk result (λ c. c.1 ≡ place + element_width repeated (field_of node.now)) }
 {
     match repeated {

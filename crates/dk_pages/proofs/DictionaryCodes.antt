@@ -2,7 +2,8 @@
 use Rattle.std.proofs.Common.{◌≡◌, ℕ, Bool, true, false, cond, ℤ, pos, Option, Some, None, List, refl, sym, ap, subst, ◌∙◌}
 use Rattle.std.specs.Ordering.{int_eq}
 use Rattle.dk_pages.specs.Headers as header
-use Rattle.dk_pages.specs.Headers.{header_of, typed_header, data_header, dictionary_header, data_header_v2, rle, ◌>=◌}
+use Rattle.dk_pages.specs.Headers.{page_header_of, typed_header, data_header, dictionary_header, data_header_v2, rle}
+use Rattle.dk_pqmodel.specs.Footer.{◌>=◌}
 use Rattle.dk_pages.specs.Pages.{Page}
 use Rattle.dk_pages.specs.Spelled.{IsPageAt}
 use Rattle.dk_pages.specs.declared.fields.Fields.{Fields}
@@ -50,7 +51,7 @@ typed_rle type size fields said h is = by_type (int_eq type (pos 0)) (int_eq typ
     by_type false false true e = (let k = not_v2 size (header.natural fields.data_page_v2.field_1) (header.int32 fields.data_page_v2.field_4) (header.natural fields.data_page_v2.field_5) (header.natural fields.data_page_v2.field_6) said e in cc)
     by_type false false false e = absurd (none_is_not_some said e)
 
-header_rle : (fields : Fields) (said : Header) → header_of fields ≡ Some said → said.kind ≡ Dictionary → HasRle said
+header_rle : (fields : Fields) (said : Header) → page_header_of fields ≡ Some said → said.kind ≡ Dictionary → HasRle said
 header_rle fields said h is =
     let t = some_bound fields.own.field_1 (λ type. header.natural fields.own.field_3 >= λ size. typed_header type size fields) said h in
     let s = some_bound (header.natural fields.own.field_3) (λ size. typed_header t.0 size fields) said t.1.1 in

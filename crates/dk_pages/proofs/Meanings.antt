@@ -1,12 +1,8 @@
 -- What a field's value means, from what its bytes begin with.
 use Rattle.std.proofs.Common.{◌≡◌, ℕ, true, ℤ, Some, Ok, List, refl, ap, ◌∙◌}
-use Rattle.dk_grammar.specs.Thrift.{whole_at}
 use Rattle.dk_thrift.specs.Reading.{Reading}
-use Rattle.dk_grammar.specs.Structs.{Listed, is_whole, number_meaning, struct_at}
+use Rattle.dk_grammar.specs.Structs.{Listed, number_meaning, struct_at}
 use Rattle.dk_grammar.specs.PageHeaders.{inner, is_inner, part_meaning}
-
-pub whole_counts : (id : ℤ) (kind : ℕ) (bytes rest : List ℕ) (z : ℤ) → is_whole kind ≡ true → whole_at bytes ≡ Ok (z, rest) → number_meaning id kind bytes ≡ Ok (Some z, rest)
-whole_counts id kind bytes rest z t e = rw (t, e) refl
 
 pub inner_counts : (id : ℤ) (kind : ℕ) (bytes rest : List ℕ) (numbers : Listed ℤ) → is_inner id ≡ true → kind ≡ 12 → struct_at number_meaning bytes ≡ Ok (numbers, rest)
     → part_meaning id kind bytes ≡ Ok (Some (inner numbers), rest)

@@ -5,7 +5,7 @@ use Rattle.std.proofs.lemmas.Bool.{ltb-true, lt-ltb}
 use Rattle.std.proofs.lemmas.Bool.Decides.{Decides-int_eq}
 use Rattle.dk_grammar.specs.Structs.{Listed, last_under, when}
 use Rattle.dk_grammar.specs.PageHeaders.{Part, numbers_in, inner_under, SpellsHeader}
-use Rattle.dk_pages.specs.Headers.{numbers_of, fields_of, natural, int32, data_header, data_header_v2, dictionary_header, typed_header, header_of, rle}
+use Rattle.dk_pages.specs.Headers.{numbers_of, fields_of, natural, int32, data_header, data_header_v2, dictionary_header, typed_header, page_header_of, rle}
 use Rattle.dk_pages.specs.Pages.{Page, page_with}
 use Rattle.dk_pages.specs.Spelled.{IsPageAt}
 use Rattle.dk_pages.specs.declared.fields.Fields.{Fields}
@@ -194,7 +194,7 @@ module _ (parts : Listed Part) (body : List ℕ) (next : ℕ) (said : Header) (s
   by_type type n t s false false true e f g is = v2_says n (t ∙ ap Some (int_is type (pos 3) g)) s is
   by_type type n t s false false false e f g is = absurd (none_is_not_some said is)
 
-  says_kind : header_of (fields_of parts) ≡ Some said → Said
+  says_kind : page_header_of (fields_of parts) ≡ Some said → Said
   says_kind h =
       let fields = fields_of parts in
       let a = some_bound fields.own.field_1 (λ type. option_and_then (λ n. typed_header type n fields) (natural fields.own.field_3)) said h in
@@ -209,7 +209,7 @@ page_kind bytes place page at =
 -- ---- and what says so is such a page
 
 module _ (bytes front header body more : List ℕ) (parts : Listed Part) (whole : bytes ≡ front ++ (header ++ (body ++ more))) (spelled : SpellsHeader header parts) where
-  stands : (said : Header) → header_of (fields_of parts) ≡ Some said → length body ≡ said.size → IsPageAt bytes (length front) (page_with said body (length (front ++ (header ++ body))))
+  stands : (said : Header) → page_header_of (fields_of parts) ≡ Some said → length body ≡ said.size → IsPageAt bytes (length front) (page_with said body (length (front ++ (header ++ body))))
   stands said means size = record {
     front = front;
     header = header;
@@ -226,7 +226,7 @@ module _ (bytes front header body more : List ℕ) (parts : Listed Part) (whole 
   }
 
   typed : (type : ℤ) (size : ℕ) (said : Header) → last_under (pos 1) (numbers_in parts) ≡ Some type → natural (last_under (pos 3) (numbers_in parts)) ≡ Some size
-      → typed_header type size (fields_of parts) ≡ Some said → header_of (fields_of parts) ≡ Some said
+      → typed_header type size (fields_of parts) ≡ Some said → page_header_of (fields_of parts) ≡ Some said
   typed type size said t s is = rw (t, s) is
 
   pub v1_stands : (values : ℕ) (encoding rep_code def_code : ℤ)

@@ -27,11 +27,11 @@ all_of (Some x) = if length x.1 == 0 then Some x.0 else None
 abbrev pub entries_of : Physical → Page → Option (List (List ℕ))
 entries_of kind page = all_of (entries_at kind page.values page.body)
 
-abbrev pub IsRead : Result (List (List ℕ)) PqFault → Option (List (List ℕ)) → Type 0
-IsRead (Ok entries) meaning = meaning ≡ Some entries
-IsRead (Err Broken) meaning = meaning ≡ None
-IsRead (Err OutOfMemory) meaning = ⊤
-IsRead (Err fault) meaning = ⊥
+abbrev pub AnswersEntries : Result (List (List ℕ)) PqFault → Option (List (List ℕ)) → Type 0
+AnswersEntries (Ok entries) meaning = meaning ≡ Some entries
+AnswersEntries (Err Broken) meaning = meaning ≡ None
+AnswersEntries (Err OutOfMemory) meaning = ⊤
+AnswersEntries (Err fault) meaning = ⊥
 
 -- entries done, and then those that are left
 abbrev pub entries_then : List (List ℕ) → Option (List (List ℕ) × List ℕ) → Option (List (List ℕ) × List ℕ)

@@ -4,6 +4,7 @@ use Rattle.std.specs.Ordering.{int_eq}
 use Rattle.dk_grammar.specs.Thrift.{Front, ◌>>=◌}
 use Rattle.dk_grammar.specs.PageHeaders.{Part, number, inner, part_meaning, numbers_in, inner_under}
 use Rattle.dk_grammar.specs.Structs.{Listed, struct_at, last_under, when, first_of_two}
+use Rattle.dk_pqmodel.specs.Footer.{◌>=◌}
 use Rattle.dk_pages.specs.declared.numbers.Numbers.{Numbers}
 use Rattle.dk_pages.specs.declared.fields.Fields.{Fields}
 use Rattle.dk_pages.specs.declared.header.Header.{Header}
@@ -66,10 +67,6 @@ natural None = None
 natural (Some (pos n)) = when (nat_lt n (2 ^ 31)) n
 natural (Some (negsuc n)) = None
 
-infixl 10 ◌>=◌
-abbrev pub ◌>=◌ : {A B : Type 0} → Option A → (A → Option B) → Option B
-x >= f = option_and_then f x
-
 -- the encoding of levels in pages that have no code for it, RLE
 abbrev pub rle : ℤ
 rle = pos 3
@@ -100,13 +97,13 @@ typed_header type size fields =
     if int_eq type (pos 3) then data_header_v2 size fields.data_page_v2 else None
 
 -- PageHeader: type, the size of the body in the file
-abbrev pub header_of : Fields → Option Header
-header_of fields = fields.own.field_1 >= λ type. natural fields.own.field_3 >= λ size. typed_header type size fields
+abbrev pub page_header_of : Fields → Option Header
+page_header_of fields = fields.own.field_1 >= λ type. natural fields.own.field_3 >= λ size. typed_header type size fields
 
-abbrev pub header_in : Front (Listed Part) → Option (Header × List ℕ)
-header_in (Err flaw) = None
-header_in (Ok x) = option_map (λ header. (header, x.1)) (header_of (fields_of x.0))
+abbrev pub page_header_in : Front (Listed Part) → Option (Header × List ℕ)
+page_header_in (Err flaw) = None
+page_header_in (Ok x) = option_map (λ header. (header, x.1)) (page_header_of (fields_of x.0))
 
 -- the page header that the bytes begin with, and the bytes behind it
 abbrev pub header_at : List ℕ → Option (Header × List ℕ)
-header_at bytes = header_in (struct_at part_meaning bytes)
+header_at bytes = page_header_in (struct_at part_meaning bytes)

@@ -59,6 +59,6 @@ abbrev pub page_at : List ℕ → ℕ → Option Page
 page_at bytes place = option_and_then (λ x. page_within bytes (length bytes - length x.1) x.0) (header_at (drop place bytes))
 
 -- an answer is what stands there; the one refusal says that nothing does
-abbrev pub Answers : {X Y : Type 0} → (X → Y) → Result X PqFault → Option Y → Type 0
-Answers view (Ok x) meaning = meaning ≡ Some (view x)
-Answers view (Err fault) meaning = (fault ≡ Broken) × (meaning ≡ None)
+abbrev pub AnswersOrBroken : {X Y : Type 0} → (X → Y) → Result X PqFault → Option Y → Type 0
+AnswersOrBroken view (Ok x) meaning = meaning ≡ Some (view x)
+AnswersOrBroken view (Err fault) meaning = (fault ≡ Broken) × (meaning ≡ None)

@@ -2,7 +2,7 @@
 use Rattle.std.specs.Prelude.{◌≡◌, ℕ, zero, suc, ◌==◌, ◌&&◌, ℤ, pos, Some, List, [], ◌++◌, length}
 use Rattle.dk_grammar.specs.Structs.{Listed}
 use Rattle.dk_grammar.specs.PageHeaders.{Part, SpellsHeader}
-use Rattle.dk_pages.specs.Headers.{fields_of, header_of}
+use Rattle.dk_pages.specs.Headers.{fields_of, page_header_of}
 use Rattle.dk_pages.specs.Pages.{Page, page_with}
 use Rattle.dk_pages.specs.declared.header.Header.{Header}
 
@@ -17,6 +17,6 @@ pub record IsPageAt (bytes : List ℕ) (place : ℕ) (page : Page) : Type 0 wher
   pub parts : Listed Part
   pub spelled : SpellsHeader header parts
   pub said : Header
-  pub means : header_of (fields_of parts) ≡ Some said
+  pub means : page_header_of (fields_of parts) ≡ Some said
   pub size : length body ≡ said.size
   pub is : page ≡ page_with said body (length (front ++ (header ++ body)))

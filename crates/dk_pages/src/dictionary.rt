@@ -9,8 +9,8 @@ use dk_pqmodel::PqFault;
 use std::alloc::Global;
 use std::marker::Model;
 
-/// What the entries of a dictionary page are (Apache Parquet, "Plain").
-#[derive(Clone, Copy, Debug, PartialEq, Eq)]
+/// What the entries of a dictionary page are (Apache Parquet, "Encodings", "Plain").
+#[derive(Clone, Copy)]
 pub enum Physical {
     /// Numbers of four bytes.
     Int32,
@@ -36,17 +36,18 @@ impl<'a> Model for Dictionary<'a> {
 
 impl<'a> Dictionary<'a> {
     ghost use Rattle.std.specs.Prelude.{◌≡◌, option_map, slice_get};
-    ghost use Rattle.dk_pages.specs.Entries.{IsRead, entries_of};
+    ghost use Rattle.dk_pages.specs.Entries.{AnswersEntries, entries_of};
     ghost use Rattle.dk_pages.specs.Pages.{page_of};
 
-    /// The entries of the page. `Broken` comes exactly where its body isn't as many plain entries of this kind as it says, with
-    /// nothing behind them. What grows is one slice for each entry that stands there.
+    /// The entries of the page (Apache Parquet, "Encodings", "Dictionary Encoding"), in the encoding PLAIN whatever the page names.
+    /// `Broken` comes exactly where its body isn't as many plain entries of this kind as it says, with nothing behind them, and
+    /// `OutOfMemory` is the one other refusal. What grows is one slice for each entry that stands there.
     pub fn read(
         alloc: Global,
         page: &PageView<'a>,
         kind: Physical,
     ) -> Result<Dictionary<'a>, PqFault>
-        ensures { IsRead result (entries_of kind (page_of page.now)) }
+        ensures { AnswersEntries result (entries_of kind (page_of page.now)) }
     {
         let mut entries = Vec::new(alloc);
         let mut rest = page.body;

@@ -1,7 +1,7 @@
 //! The fields of a page header.
 
 ghost use Rattle.std.specs.Prelude.{◌≡◌, ◌&&◌, length};
-ghost use Rattle.dk_pages.specs.Found.{Finds, FindsOne};
+ghost use Rattle.dk_pages.specs.Found.{ReadsFields, ReadsValue};
 ghost use Rattle.dk_grammar.specs.PageHeaders.{is_inner, part_meaning};
 ghost use Rattle.dk_pages.specs.Headers.{fields_of, with_part};
 ghost use Rattle.dk_grammar.specs.Structs.{fields_from};
@@ -52,7 +52,7 @@ impl Fields {
 
 /// The fields of a page header, up to its end.
 pub(crate) fn read_fields(reader: &mut Reader<'_>) -> Result<Fields, ThriftFault>
-    ensures { Finds fields_of reader.old reader.new result (fields_from part_meaning (length reader.old.rest) reader.old.last reader.old.rest) }
+    ensures { ReadsFields fields_of reader.old reader.new result (fields_from part_meaning (length reader.old.rest) reader.old.last reader.old.rest) }
 {
     let mut fields = Fields::none();
     // Each field takes a byte at least.
@@ -73,7 +73,7 @@ fn read_part(
     kind: u8,
     fields: &mut Fields,
 ) -> Result<(), ThriftFault>
-    ensures { FindsOne (λ part. fields.new ≡ with_part id part fields.old) reader.old reader.new result (part_meaning id kind reader.old.rest) }
+    ensures { ReadsValue (λ part. fields.new ≡ with_part id part fields.old) reader.old reader.new result (part_meaning id kind reader.old.rest) }
 {
     if is_inner(id) && kind == STRUCT {
         let outer = reader.enter();

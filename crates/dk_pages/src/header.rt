@@ -1,13 +1,13 @@
 //! What a page header says, from its fields.
 
 ghost use Rattle.std.specs.Prelude.{◌≡◌};
-ghost use Rattle.dk_pages.specs.Headers.{data_header, data_header_v2, dictionary_header, header_of, int32, natural, typed_header};
+ghost use Rattle.dk_pages.specs.Headers.{data_header, data_header_v2, dictionary_header, page_header_of, int32, natural, typed_header};
 
 use crate::fields::Fields;
 use crate::numbers::Numbers;
 
 /// The pages of a column.
-#[derive(Clone, Copy, Debug, PartialEq, Eq)]
+#[derive(Clone, Copy)]
 pub enum PageKind {
     /// Values, with their levels behind the length of each.
     DataV1,
@@ -35,7 +35,7 @@ const RLE: i32 = 3;
 
 /// The header of these fields; `None` where one that it needs isn't there, or isn't a number that it takes.
 pub(crate) fn header_of(fields: &Fields) -> Option<Header>
-    ensures { result ≡ header_of fields.now }
+    ensures { result ≡ page_header_of fields.now }
 {
     let page_type = fields.own.field_1?;
     let size = natural(fields.own.field_3)?;

@@ -9,8 +9,6 @@ pub mod laws;
 mod numbers;
 mod page;
 mod split;
-#[cfg(test)]
-mod tests;
 
 pub use dictionary::{Dictionary, Physical};
 pub use header::PageKind;

@@ -1,9 +1,9 @@
 //! The whole numbers among the fields of a struct.
 
 ghost use Rattle.std.specs.Prelude.{◌≡◌, length};
-ghost use Rattle.dk_pages.specs.Found.{Finds, FindsOne};
+ghost use Rattle.dk_pages.specs.Found.{ReadsFields, ReadsValue};
 ghost use Rattle.dk_pages.specs.Headers.{numbers_of, with_number};
-ghost use Rattle.dk_grammar.specs.Structs.{fields_from, is_whole, number_meaning};
+ghost use Rattle.dk_grammar.specs.Structs.{fields_from, number_meaning};
 
 use dk_thrift::{Field, Reader, ThriftFault};
 
@@ -54,7 +54,7 @@ impl Numbers {
 
 /// The fields of the current struct, up to its end.
 pub(crate) fn read_numbers(reader: &mut Reader<'_>) -> Result<Numbers, ThriftFault>
-    ensures { Finds numbers_of reader.old reader.new result (fields_from number_meaning (length reader.old.rest) reader.old.last reader.old.rest) }
+    ensures { ReadsFields numbers_of reader.old reader.new result (fields_from number_meaning (length reader.old.rest) reader.old.last reader.old.rest) }
 {
     let mut numbers = Numbers::none();
     // Each field takes a byte at least.
@@ -75,19 +75,10 @@ pub(crate) fn read_number(
     kind: u8,
     numbers: &mut Numbers,
 ) -> Result<(), ThriftFault>
-    ensures { FindsOne (λ value. numbers.new ≡ with_number id value numbers.old) reader.old reader.new result (number_meaning id kind reader.old.rest) }
+    ensures { ReadsValue (λ value. numbers.new ≡ with_number id value numbers.old) reader.old reader.new result (number_meaning id kind reader.old.rest) }
 {
-    if is_whole(kind) {
-        numbers.put(id, reader.whole()?);
-        Ok(())
-    } else {
-        reader.skip(kind)
+    if let Some(number) = reader.number(kind)? {
+        numbers.put(id, number);
     }
-}
-
-/// The kinds of whole numbers are 4, 5 and 6: of 16, 32 and 64 bits.
-fn is_whole(kind: u8) -> bool
-    ensures { result ≡ is_whole kind }
-{
-    4 <= kind && kind <= 6
+    Ok(())
 }

@@ -1,7 +1,7 @@
 //! The page that stands at a place of the file.
 
 ghost use Rattle.std.specs.Prelude.{◌≡◌, IfErr, IfOk, option_map};
-ghost use Rattle.dk_pages.specs.Pages.{Answers, Page, page_at, page_of, page_within};
+ghost use Rattle.dk_pages.specs.Pages.{AnswersOrBroken, Page, page_at, page_of, page_within};
 ghost use Rattle.dk_pages.specs.Spelled.{IsPageAt};
 
 use crate::fields::read_fields;
@@ -10,7 +10,7 @@ use dk_pqmodel::PqFault;
 use dk_thrift::Reader;
 
 /// A page of a column, whose body is a part of the file's bytes (Apache Parquet, "Data Pages").
-#[derive(Clone, Copy, Debug)]
+#[derive(Clone, Copy)]
 pub struct PageView<'a> {
     pub kind: PageKind,
     /// How many values there are, nulls among them; of a dictionary page, how many entries.
@@ -31,10 +31,12 @@ pub struct PageView<'a> {
     pub next: usize,
 }
 
-/// The page whose header begins at the place `at`, in bytes from the front. `Broken` comes exactly where no page header with a body
-/// inside the bytes is spelled there, and there is no other refusal. It takes no memory.
+/// The page whose header begins at the place `at`, in bytes from the front (Apache Parquet, "File format" and "Data Pages").
+///
+/// `Broken` comes exactly where no page header with a body inside the bytes is spelled there, and there is no other refusal. It takes
+/// no memory.
 pub fn next_page<'a>(bytes: &'a [u8], at: usize) -> Result<PageView<'a>, PqFault>
-    ensures exact { Answers page_of result (page_at bytes.now at) }
+    ensures exact { AnswersOrBroken page_of result (page_at bytes.now at) }
     ensures spelled { IfOk result (λ page. IsPageAt bytes.now at (page_of page)) }
     ensures broken { IfErr result (λ _. (page : Page) → IsPageAt bytes.now at page → ⊥) }
 {

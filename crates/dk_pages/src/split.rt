@@ -10,7 +10,7 @@ use crate::page::PageView;
 use dk_pqmodel::PqFault;
 
 /// The parts of a page's body, without the lengths that stand between them.
-#[derive(Clone, Copy, Debug)]
+#[derive(Clone, Copy)]
 pub struct Split<'a> {
     /// The runs of the repetition levels.
     pub rep: &'a [u8],
@@ -21,16 +21,17 @@ pub struct Split<'a> {
 }
 
 impl<'a> PageView<'a> {
-    ghost use Rattle.dk_pages.specs.Pages.{Answers, page_of};
+    ghost use Rattle.dk_pages.specs.Pages.{AnswersOrBroken, page_of};
     ghost use Rattle.dk_pages.specs.Split.{parts_of, split_of};
 
-    /// The parts of the body, by the greatest repetition and definition level of the page's column. `Broken` comes exactly where a
-    /// stated length passes the body's end, and there is no other refusal. It takes no memory.
+    /// The parts of the body, by the greatest repetition and definition level of the page's column (Apache Parquet, "Data Pages"
+    /// and "Nested Encoding"). `Broken` comes exactly where a stated length passes the body's end, and there is no other refusal. It
+    /// takes no memory.
     ///
     /// A data page of the first version leaves levels out where their greatest is 0. One of the second version has them in the
     /// lengths that its header says, whatever the greatest levels. A dictionary page has none.
     pub fn split(&self, rep: u8, def: u8) -> Result<Split<'a>, PqFault>
-        ensures { Answers parts_of result (split_of rep def (page_of self.now)) }
+        ensures { AnswersOrBroken parts_of result (split_of rep def (page_of self.now)) }
     {
         match split_page(self, rep, def) {
             Some(parts) => Ok(parts),

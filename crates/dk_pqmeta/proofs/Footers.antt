@@ -14,13 +14,13 @@ use Rattle.dk_grammar.proofs.ListSpellings.{lists_by, turned_by, held_by}
 use Rattle.dk_pqmodel.specs.FileSchema.{FileNodes}
 use Rattle.dk_pqmodel.specs.Footer.{◌>=◌, Footer, RowGroup, FileFields, MeansFooter, meta_fields, chunk_fields, group_fields, element_fields, file_fields, each_of, element_of, group_of, natural}
 use Rattle.dk_pqmodel.specs.FooterBytes.{SpellsName, SpellsPath, SpellsMeta, SpellsChunk, SpellsGroup, SpellsElement, SpellsMetaData, SpellsFooter, HasFooter}
-use Rattle.dk_pqmeta.specs.Readings.{name_at, path_at, meta_meaning, meta_at, chunk_meaning, chunk_at, group_meaning, group_at, element_meaning, element_at, file_meaning, file_at}
+use Rattle.dk_pqmeta.specs.Readings.{text_at, path_at, meta_meaning, meta_at, chunk_meaning, column_chunk_at, group_meaning, group_at, element_meaning, schema_element_at, file_meaning, file_at}
 use Rattle.dk_pqmeta.specs.Trees.{footer_from, tree_of}
 use Rattle.dk_pqmeta.specs.Footers.{whole_of, file_in}
 use Rattle.dk_pqmeta.proofs.Framing.{framed_once}
 use Rattle.dk_pqmeta.proofs.Trees.{none_is_not_some, some_is, some_bound, tree_found, tree_only}
 
-name_spelled : (bytes rest name : List ℕ) → name_at bytes ≡ Ok (name, rest) → Spelled SpellsName bytes name rest
+name_spelled : (bytes rest name : List ℕ) → text_at bytes ≡ Ok (name, rest) → Spelled SpellsName bytes name rest
 name_spelled bytes rest name h =
     let x = bound (binary_at bytes) (λ x. cond (is_utf8 x.0) (Ok (x.0, x.1)) (bad_at bytes)) (name, rest) h in
     elim (choice (is_utf8 x.0.0) _ _ _ x.2) [
@@ -30,29 +30,29 @@ name_spelled bytes rest name h =
       | inr c ↦ absurd (bad_is_not_ok bytes (name, rest) c.1)
     ]
 
-name_given : (front rest name : List ℕ) → SpellsName front name → name_at (front ++ rest) ≡ Ok (name, rest)
+name_given : (front rest name : List ℕ) → SpellsName front name → text_at (front ++ rest) ≡ Ok (name, rest)
 name_given front rest name s = rw (binaries.given front rest name s.0, s.1) refl
 
-names : ReadsBy SpellsName name_at
+names : ReadsBy SpellsName text_at
 names = record { spelled = name_spelled; given = name_given }
 
 paths : ReadsBy SpellsPath path_at
-paths = lists_by SpellsName name_at names 8
+paths = lists_by SpellsName text_at names 8
 
 metas : ReadsBy SpellsMeta meta_at
 metas = turned_by meta_fields _ _ (structs _ meta_meaning (held_by (pos 3) 9 SpellsPath path_at paths SpellsNumberField number_meaning number_fields))
 
-chunks : ReadsBy SpellsChunk chunk_at
+chunks : ReadsBy SpellsChunk column_chunk_at
 chunks = turned_by chunk_fields _ _ (structs _ chunk_meaning (held_by (pos 3) 12 SpellsMeta meta_at metas SpellsNumberField number_meaning number_fields))
 
 groups : ReadsBy SpellsGroup group_at
-groups = turned_by group_fields _ _ (structs _ group_meaning (held_by (pos 1) 9 (SpellsListOf 12 SpellsChunk) (list_of 12 chunk_at) (lists_by SpellsChunk chunk_at chunks 12) SpellsNumberField number_meaning number_fields))
+groups = turned_by group_fields _ _ (structs _ group_meaning (held_by (pos 1) 9 (SpellsListOf 12 SpellsChunk) (list_of 12 column_chunk_at) (lists_by SpellsChunk column_chunk_at chunks 12) SpellsNumberField number_meaning number_fields))
 
-elements : ReadsBy SpellsElement element_at
-elements = turned_by element_fields _ _ (structs _ element_meaning (held_by (pos 4) 8 SpellsName name_at names SpellsNumberField number_meaning number_fields))
+elements : ReadsBy SpellsElement schema_element_at
+elements = turned_by element_fields _ _ (structs _ element_meaning (held_by (pos 4) 8 SpellsName text_at names SpellsNumberField number_meaning number_fields))
 
 pub files : ReadsBy SpellsMetaData file_at
-files = turned_by file_fields _ _ (structs _ file_meaning (held_by (pos 2) 9 (SpellsListOf 12 SpellsElement) (list_of 12 element_at) (lists_by SpellsElement element_at elements 12)
+files = turned_by file_fields _ _ (structs _ file_meaning (held_by (pos 2) 9 (SpellsListOf 12 SpellsElement) (list_of 12 schema_element_at) (lists_by SpellsElement schema_element_at elements 12)
     (SpellsHeldOr (pos 4) 9 (SpellsListOf 12 SpellsGroup) SpellsNumberField) (held_or (pos 4) 9 (list_of 12 group_at) number_meaning)
     (held_by (pos 4) 9 (SpellsListOf 12 SpellsGroup) (list_of 12 group_at) (lists_by SpellsGroup group_at groups 12) SpellsNumberField number_meaning number_fields)))
 

@@ -3,9 +3,9 @@ use Rattle.std.proofs.Common.{◌≡◌, ℕ, List, Bool, true, false, cond, Ok,
 use Rattle.std.proofs.lemmas.Str.{IsUtf8-from_is_utf8, is_utf8-from_IsUtf8}
 use Rattle.std.specs.Str.{is_utf8}
 use Rattle.dk_grammar.specs.Thrift.{Front, binary_at, bad_at}
-use Rattle.dk_pqmeta.specs.Readings.{name_at}
+use Rattle.dk_pqmeta.specs.Readings.{text_at}
 
-pub name_read : (bytes part rest name : List ℕ) → binary_at bytes ≡ Ok (part, rest) → IsUtf8 part → name ≡ part → name_at bytes ≡ Ok (name, rest)
+pub name_read : (bytes part rest name : List ℕ) → binary_at bytes ≡ Ok (part, rest) → IsUtf8 part → name ≡ part → text_at bytes ≡ Ok (name, rest)
 name_read bytes part rest name e u n = rw (e, is_utf8-from_IsUtf8 part u, n) refl
 
 abbrev or_bad : Bool → List ℕ → List ℕ → List ℕ → Front (List ℕ)
@@ -15,5 +15,5 @@ by_test : (b : Bool) (part rest bytes : List ℕ) → is_utf8 part ≡ b → (Is
 by_test true part rest bytes t u = absurd (u (IsUtf8-from_is_utf8 part t))
 by_test false part rest bytes t u = refl
 
-pub name_refused : (bytes part rest : List ℕ) → binary_at bytes ≡ Ok (part, rest) → (IsUtf8 part → ⊥) → IsErr (name_at bytes)
+pub name_refused : (bytes part rest : List ℕ) → binary_at bytes ≡ Ok (part, rest) → (IsUtf8 part → ⊥) → IsErr (text_at bytes)
 name_refused bytes part rest e u = rw e (by_test (is_utf8 part) part rest bytes refl u)

@@ -7,24 +7,24 @@ use Rattle.dk_pqmeta.specs.declared.fault.MetaFault.{MetaFault}
 use Rattle.dk_pqmeta.specs.declared.fault.MetaFault.TheVariants.{Broken, OutOfMemory}
 
 -- a refusal: nothing of the sort is spelled there, or memory was wanting
-abbrev pub Refuses : {Y : Type 0} → MetaFault → Front Y → Type 0
-Refuses Broken front = IsErr front
-Refuses OutOfMemory front = Unit {0}
+abbrev pub RefusesFront : {Y : Type 0} → MetaFault → Front Y → Type 0
+RefusesFront Broken front = IsErr front
+RefusesFront OutOfMemory front = Unit {0}
 
 -- The value that the bytes begin with is found, and the reader stands behind it; or there is none.
 abbrev pub Finds : {X Y : Type 0} → (X → Y) → Reading → Reading → Result X MetaFault → Front Y → Type 0
 Finds view old new (Ok x) front = (front ≡ Ok (view x, new.rest)) × (new ≡ record old { rest = new.rest })
-Finds view old new (Err fault) front = Refuses fault front
+Finds view old new (Err fault) front = RefusesFront fault front
 
 -- The same of the fields of the current struct; where the reader stands in the struct isn't said.
 abbrev pub FindsFields : {X Y : Type 0} → (X → Y) → Reading → Reading → Result X MetaFault → Front Y → Type 0
 FindsFields view old new (Ok x) front = (front ≡ Ok (view x, new.rest)) × (new.size ≡ old.size)
-FindsFields view old new (Err fault) front = Refuses fault front
+FindsFields view old new (Err fault) front = RefusesFront fault front
 
 -- One field's value is found, and `Keeps` holds of what counts of it.
 abbrev pub FindsOne : {V : Type 0} → (V → Type 0) → Reading → Reading → Result (Unit {0}) MetaFault → Front V → Type 0
 FindsOne {V} Keeps old new (Ok _) front = (value : V) × ((front ≡ Ok (value, new.rest)) × Keeps value × (new ≡ record old { rest = new.rest }))
-FindsOne Keeps old new (Err fault) front = Refuses fault front
+FindsOne Keeps old new (Err fault) front = RefusesFront fault front
 
 -- what is kept of the fields
 abbrev pub kept_front : {V K : Type 0} → (Listed V → K) → Front (Listed V) → Front K

@@ -18,10 +18,10 @@ abbrev pub chunk_view : Chunk → plain.Chunk
 chunk_view c = record { physical = c.physical; codec = c.codec; values = c.values; first_page = c.first_page; dictionary_page = c.dictionary_page }
 
 -- What is made of parts that were read, where they make something.
-abbrev pub Makes : {X Y : Type 0} → (X → Y) → Result X MetaFault → Option Y → Type 0
-Makes view (Ok x) meaning = meaning ≡ Some (view x)
-Makes view (Err Broken) meaning = meaning ≡ None
-Makes view (Err OutOfMemory) meaning = Unit {0}
+abbrev pub MakesOf : {X Y : Type 0} → (X → Y) → Result X MetaFault → Option Y → Type 0
+MakesOf view (Ok x) meaning = meaning ≡ Some (view x)
+MakesOf view (Err Broken) meaning = meaning ≡ None
+MakesOf view (Err OutOfMemory) meaning = Unit {0}
 
 abbrev pub nodes_of_list : List FileNode → FileNodes
 nodes_of_list [] = no_nodes
@@ -49,10 +49,10 @@ abbrev pub element_view : SchemaElement → plain.Element
 element_view e = record { name = string_bytes e.name; repetition = e.repetition; physical = e.physical; children = e.children }
 
 -- What is made of the elements at the front, and those that are left.
-abbrev pub Takes : {X Y : Type 0} → (X → Y) → Result X MetaFault → List plain.Element → Option (Y × List plain.Element) → Type 0
-Takes view (Ok x) left meaning = meaning ≡ Some (view x, left)
-Takes view (Err Broken) left meaning = meaning ≡ None
-Takes view (Err OutOfMemory) left meaning = Unit {0}
+abbrev pub TakesElements : {X Y : Type 0} → (X → Y) → Result X MetaFault → List plain.Element → Option (Y × List plain.Element) → Type 0
+TakesElements view (Ok x) left meaning = meaning ≡ Some (view x, left)
+TakesElements view (Err Broken) left meaning = meaning ≡ None
+TakesElements view (Err OutOfMemory) left meaning = Unit {0}
 
 -- columns done, and then those of the chunks that are left
 abbrev pub columns_behind : List (Path × plain.Chunk) → List plain.ChunkFields → Option (List (Path × plain.Chunk))

@@ -35,7 +35,7 @@ pub struct RowGroup {
 }
 
 /// A chunk of a column (ColumnMetaData). Places are in bytes from the front of the file.
-#[derive(Clone, Copy, Debug)]
+#[derive(Clone, Copy)]
 pub struct Chunk {
     /// The code of the physical type.
     pub physical: i32,

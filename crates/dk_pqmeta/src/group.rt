@@ -2,7 +2,7 @@
 
 ghost use Rattle.std.specs.Prelude.{[], map};
 ghost use Rattle.dk_pqmeta.specs.Kept.{chunk_kept};
-ghost use Rattle.dk_pqmeta.specs.View.{Makes, column_view, columns_behind};
+ghost use Rattle.dk_pqmeta.specs.View.{MakesOf, column_view, columns_behind};
 
 use crate::chunk::ColumnChunk;
 use crate::fault::MetaFault;
@@ -77,11 +77,11 @@ impl Record for Group {
 impl Group {
     ghost use Rattle.dk_pqmodel.specs.Footer.{group_of};
     ghost use Rattle.dk_pqmeta.specs.Kept.{group_kept};
-    ghost use Rattle.dk_pqmeta.specs.View.{Makes, group_view};
+    ghost use Rattle.dk_pqmeta.specs.View.{MakesOf, group_view};
 
     /// The row group with its chunks by path.
     pub fn into_row_group(self, alloc: Global) -> Result<RowGroup, MetaFault>
-        ensures { Makes group_view result (group_of (group_kept self)) }
+        ensures { MakesOf group_view result (group_of (group_kept self)) }
     {
         let Group { columns, rows } = self;
         let Some(chunks) = columns else {
@@ -100,7 +100,7 @@ fn columns_by_path(
     alloc: Global,
     chunks: Vec<ColumnChunk>,
 ) -> Result<IndexMap<Vec<String>, Chunk>, MetaFault>
-    ensures { Makes (λ m. map column_view m.entries) result (columns_behind [] (map chunk_kept chunks.items)) }
+    ensures { MakesOf (λ m. map column_view m.entries) result (columns_behind [] (map chunk_kept chunks.items)) }
 {
     let mut columns = IndexMap::new(alloc);
     for chunk in chunks {

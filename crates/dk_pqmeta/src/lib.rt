@@ -13,8 +13,6 @@ mod metadata;
 mod numbers;
 mod read;
 mod structs;
-#[cfg(test)]
-mod tests;
 mod tree;
 mod values;
 

@@ -5,7 +5,7 @@ ghost use Rattle.dk_pqmodel.specs.Footer.{each_of, element_of, group_of};
 ghost use Rattle.dk_pqmeta.specs.Footers.{AnswersFooter, file_in};
 ghost use Rattle.dk_pqmeta.specs.Kept.{element_kept, file_kept, group_kept};
 ghost use Rattle.dk_pqmeta.specs.Trees.{footer_from};
-ghost use Rattle.dk_pqmeta.specs.View.{Makes, element_view, footer_view, group_view};
+ghost use Rattle.dk_pqmeta.specs.View.{MakesOf, element_view, footer_view, group_view};
 
 use crate::element::Element;
 use crate::fault::MetaFault;
@@ -20,7 +20,7 @@ use dk_pqmodel::PqFault;
 use dk_thrift::Reader;
 use std::alloc::Global;
 
-/// The footer of a Parquet file (Apache Parquet, "File format" and "Metadata").
+/// The footer of a Parquet file, from all of the file's bytes (Apache Parquet, "File format" and "Metadata").
 ///
 /// `NotParquet` comes exactly where the magic or the footer's length doesn't fit, and `Broken` exactly where they do and no footer is
 /// spelled there: a field that is needed isn't there, a number is out of its range, the elements of the schema make no tree of at most
@@ -41,7 +41,7 @@ pub fn read_footer(alloc: Global, bytes: &[u8]) -> Result<Footer, PqFault>
 
 /// The footer that all of the bytes spell.
 fn read_part(alloc: Global, bytes: &[u8]) -> Result<Footer, MetaFault>
-    ensures { Makes footer_view result (option_and_then footer_from (file_in bytes.now)) }
+    ensures { MakesOf footer_view result (option_and_then footer_from (file_in bytes.now)) }
 {
     let file = read_file(alloc, bytes)?;
     make_footer(alloc, file)
@@ -49,7 +49,7 @@ fn read_part(alloc: Global, bytes: &[u8]) -> Result<Footer, MetaFault>
 
 /// The fields of the FileMetaData that the bytes are.
 fn read_file(alloc: Global, bytes: &[u8]) -> Result<FileMetaData, MetaFault>
-    ensures { Makes file_kept result (file_in bytes.now) }
+    ensures { MakesOf file_kept result (file_in bytes.now) }
 {
     let mut reader = Reader::new(bytes);
     let file = read_struct(alloc, &mut reader)?;
@@ -61,7 +61,7 @@ fn read_file(alloc: Global, bytes: &[u8]) -> Result<FileMetaData, MetaFault>
 }
 
 fn make_footer(alloc: Global, file: FileMetaData) -> Result<Footer, MetaFault>
-    ensures { Makes footer_view result (footer_from (file_kept file)) }
+    ensures { MakesOf footer_view result (footer_from (file_kept file)) }
 {
     let FileMetaData {
         schema,
@@ -87,7 +87,7 @@ fn make_footer(alloc: Global, file: FileMetaData) -> Result<Footer, MetaFault>
 }
 
 fn schema_elements(alloc: Global, schema: Vec<Element>) -> Result<Vec<SchemaElement>, MetaFault>
-    ensures { Makes (λ v. map element_view v.items) result (each_of element_of (map element_kept schema.items)) }
+    ensures { MakesOf (λ v. map element_view v.items) result (each_of element_of (map element_kept schema.items)) }
 {
     let mut elements = Vec::new(alloc);
     for element in schema {
@@ -100,7 +100,7 @@ fn schema_elements(alloc: Global, schema: Vec<Element>) -> Result<Vec<SchemaElem
 }
 
 fn row_groups(alloc: Global, groups: Vec<Group>) -> Result<Vec<RowGroup>, MetaFault>
-    ensures { Makes (λ v. map group_view v.items) result (each_of group_of (map group_kept groups.items)) }
+    ensures { MakesOf (λ v. map group_view v.items) result (each_of group_of (map group_kept groups.items)) }
 {
     let mut row_groups = Vec::new(alloc);
     for group in groups {

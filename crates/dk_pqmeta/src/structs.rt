@@ -6,7 +6,7 @@ ghost use Rattle.dk_grammar.specs.Lists.{list_of, turned};
 ghost use Rattle.dk_pqmeta.specs.Found.{Finds, FindsFields, FindsOne, kept_front};
 
 use crate::fault::MetaFault;
-use crate::values::{LIST, STRUCT};
+use crate::values::{STRUCT, may_hold};
 use dk_thrift::{Field, Reader};
 use std::alloc::Global;
 
@@ -74,7 +74,7 @@ pub(crate) fn read_structs<R: Record>(
     ensures { Finds (λ v. map R.kept v.items) reader.old reader.new result (list_of 12 (turned R.kept_of (struct_at R.meaning)) reader.old.rest) }
 {
     let head = reader.list()?;
-    if head.kind != STRUCT {
+    if !may_hold(STRUCT, head) {
         return Err(MetaFault::Broken);
     }
     let mut records = Vec::new(alloc);

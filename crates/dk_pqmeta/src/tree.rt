@@ -4,7 +4,7 @@ ghost use Rattle.std.specs.Prelude.{◌≡◌, [], Some, map, option_and_then};
 ghost use Rattle.std.specs.Vec.Iter.{into_iter_items};
 ghost use Rattle.dk_pqmodel.specs.Footer.{are_new};
 ghost use Rattle.dk_pqmeta.specs.Trees.{group_by, node_at, repetition_at, tree_of};
-ghost use Rattle.dk_pqmeta.specs.View.{Makes, Takes, element_view, node_of, nodes_of};
+ghost use Rattle.dk_pqmeta.specs.View.{MakesOf, TakesElements, element_view, node_of, nodes_of};
 
 use crate::fault::MetaFault;
 use crate::footer::FileNode;
@@ -29,7 +29,7 @@ pub(crate) fn read_tree(
     alloc: Global,
     elements: Vec<SchemaElement>,
 ) -> Result<Vec<FileNode>, MetaFault>
-    ensures { Makes (λ v. nodes_of v.items) result (tree_of (map element_view elements.items)) }
+    ensures { MakesOf (λ v. nodes_of v.items) result (tree_of (map element_view elements.items)) }
 {
     let mut elements = elements.into_iter();
     let Some(root) = elements.next() else {
@@ -50,7 +50,7 @@ fn read_nodes(
     elements: &mut IntoIter<SchemaElement>,
     levels: u8,
 ) -> Result<Vec<FileNode>, MetaFault>
-    ensures { Takes (λ v. nodes_of v.items) result (map element_view (into_iter_items elements.new)) (group_by (node_at levels) count (map element_view (into_iter_items elements.old))) }
+    ensures { TakesElements (λ v. nodes_of v.items) result (map element_view (into_iter_items elements.new)) (group_by (node_at levels) count (map element_view (into_iter_items elements.old))) }
 {
     let mut nodes = Vec::new(alloc);
     for _ in 0..count {
@@ -70,7 +70,7 @@ fn read_node(
     elements: &mut IntoIter<SchemaElement>,
     levels: u8,
 ) -> Result<FileNode, MetaFault>
-    ensures { Takes node_of result (map element_view (into_iter_items elements.new)) (node_at levels (map element_view (into_iter_items elements.old))) }
+    ensures { TakesElements node_of result (map element_view (into_iter_items elements.new)) (node_at levels (map element_view (into_iter_items elements.old))) }
 {
     if levels == 0 {
         return Err(MetaFault::Broken);
@@ -104,7 +104,7 @@ fn repetition(number: Option<i64>) -> Option<u8>
 
 /// Whether no two of the nodes have one name.
 fn are_distinct(alloc: Global, nodes: &[FileNode]) -> Result<bool, MetaFault>
-    ensures { Makes (λ b. b) result (Some (are_new [] (nodes_of nodes.now))) }
+    ensures { MakesOf (λ b. b) result (Some (are_new [] (nodes_of nodes.now))) }
 {
     let mut names = IndexSet::new(alloc);
     for node in nodes {

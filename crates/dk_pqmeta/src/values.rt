@@ -2,12 +2,12 @@
 
 ghost use Rattle.std.specs.Prelude.{◌≡◌, pos, string_bytes, map};
 ghost use Rattle.dk_grammar.specs.Structs.{number_meaning};
-ghost use Rattle.dk_grammar.specs.Lists.{is_held};
+ghost use Rattle.dk_grammar.specs.Lists.{is_held, may_hold};
 ghost use Rattle.dk_pqmeta.specs.Found.{Finds};
-ghost use Rattle.dk_pqmeta.specs.Readings.{name_at, path_at};
+ghost use Rattle.dk_pqmeta.specs.Readings.{text_at, path_at};
 
 use crate::fault::MetaFault;
-use dk_thrift::Reader;
+use dk_thrift::{ListHead, Reader};
 use std::alloc::Global;
 
 /// The kinds of values that are read.
@@ -19,7 +19,7 @@ pub(crate) const STRUCT: u8 = 12;
 
 /// A text.
 pub(crate) fn read_name(alloc: Global, reader: &mut Reader<'_>) -> Result<String, MetaFault>
-    ensures { Finds string_bytes reader.old reader.new result (name_at reader.old.rest) }
+    ensures { Finds string_bytes reader.old reader.new result (text_at reader.old.rest) }
 {
     let bytes = reader.binary()?;
     match str::from_utf8(bytes) {
@@ -33,7 +33,7 @@ pub(crate) fn read_path(alloc: Global, reader: &mut Reader<'_>) -> Result<Vec<St
     ensures { Finds (λ v. map string_bytes v.items) reader.old reader.new result (path_at reader.old.rest) }
 {
     let head = reader.list()?;
-    if head.kind != BINARY {
+    if !may_hold(BINARY, head) {
         return Err(MetaFault::Broken);
     }
     let mut names = Vec::new(alloc);
@@ -48,11 +48,14 @@ pub(crate) fn read_path(alloc: Global, reader: &mut Reader<'_>) -> Result<Vec<St
 pub(crate) fn read_number(reader: &mut Reader<'_>, kind: u8) -> Result<Option<i64>, MetaFault>
     ensures { Finds (λ z. z) reader.old reader.new result (number_meaning (pos 0) kind reader.old.rest) }
 {
-    if 4 <= kind && kind <= 6 {
-        return Ok(Some(reader.whole()?));
-    }
-    reader.skip(kind)?;
-    Ok(None)
+    Ok(reader.number(kind)?)
+}
+
+/// Whether a list may have elements of this kind. Where it has none, its kind doesn't matter.
+pub(crate) fn may_hold(kind: u8, head: ListHead) -> bool
+    ensures { result ≡ may_hold kind head.count head.kind }
+{
+    head.count == 0 || head.kind == kind
 }
 
 /// Whether a field of this id and kind is the one that is wanted, with a value of the wanted kind.

@@ -1,4 +1,4 @@
-pub mod Gives
+pub mod GivesFront
 pub mod Groups
 pub mod Reading
 pub mod Walks

@@ -3,7 +3,7 @@
 use thiserror::Error;
 
 /// Why a reader gives no value, and where. A place is a number of bytes from the front of the bytes that the reader was made of.
-#[derive(Clone, Copy, Debug, PartialEq, Eq, Error)]
+#[derive(Clone, Copy, Debug, Error)]
 pub enum ThriftFault {
     /// The bytes end inside the value; `at` is the number of bytes.
     #[error("the bytes end at {at}, inside a value")]

@@ -12,6 +12,3 @@ pub use dk_grammar::thrift::{Field, ListHead};
 pub use fault::ThriftFault;
 pub use reader::Reader;
 pub use writer::Writer;
-
-#[cfg(test)]
-mod tests;

@@ -3,14 +3,14 @@
 ghost use Rattle.dk_grammar.specs.Thrift.{count_at, id_at, number_at, whole_at};
 ghost use Rattle.dk_grammar.specs.Zigzag.{zigzag_of};
 ghost use Rattle.std.specs.Prelude.{◌≡◌, nat_lt, position};
-ghost use Rattle.dk_thrift.specs.Gives.{Gives};
+ghost use Rattle.dk_thrift.specs.GivesFront.{GivesFront};
 ghost use Rattle.dk_thrift.specs.Groups.{groups_value, in_64_bits};
 
 use dk_grammar::thrift::Flaw;
 
 /// A varint of at most 64 bits.
 pub fn number(bytes: &[u8]) -> Result<(u64, &[u8]), Flaw>
-    ensures { Gives (λ x. (x.0, x.1.now)) result (number_at bytes.now) }
+    ensures { GivesFront (λ x. (x.0, x.1.now)) result (number_at bytes.now) }
 {
     let Some(last) = last_group(bytes) else {
         return Err(Flaw::Short);
@@ -45,7 +45,7 @@ fn value_of(bytes: &[u8]) -> Option<u64>
 
 /// A zigzag varint.
 pub fn whole(bytes: &[u8]) -> Result<(i64, &[u8]), Flaw>
-    ensures { Gives (λ x. (x.0, x.1.now)) result (whole_at bytes.now) }
+    ensures { GivesFront (λ x. (x.0, x.1.now)) result (whole_at bytes.now) }
 {
     let (value, rest) = number(bytes)?;
     Ok((signed(value), rest))
@@ -61,7 +61,7 @@ fn signed(number: u64) -> i64
 
 /// The id of a field in full.
 pub fn id(bytes: &[u8]) -> Result<(i16, &[u8]), Flaw>
-    ensures { Gives (λ x. (x.0, x.1.now)) result (id_at bytes.now) }
+    ensures { GivesFront (λ x. (x.0, x.1.now)) result (id_at bytes.now) }
 {
     let (value, rest) = whole(bytes)?;
     if value < -32768 || value > 32767 {
@@ -72,7 +72,7 @@ pub fn id(bytes: &[u8]) -> Result<(i16, &[u8]), Flaw>
 
 /// The count of a list, a set or a map.
 pub fn count(bytes: &[u8]) -> Result<(u32, &[u8]), Flaw>
-    ensures { Gives (λ x. (x.0, x.1.now)) result (count_at bytes.now) }
+    ensures { GivesFront (λ x. (x.0, x.1.now)) result (count_at bytes.now) }
 {
     let (value, rest) = number(bytes)?;
     match u32::try_from(value) {

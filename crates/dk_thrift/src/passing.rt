@@ -4,7 +4,7 @@
 
 ghost use Rattle.std.specs.Prelude.{◌≡◌, Err};
 ghost use Rattle.dk_grammar.specs.Passed.{each, element_passed, entry_passed, kind_of, list_passed, map_passed, passed_at, struct_passed, too_deep, value_passed};
-ghost use Rattle.dk_thrift.specs.Gives.{Gives};
+ghost use Rattle.dk_thrift.specs.GivesFront.{GivesFront};
 
 use crate::numbers::{count, number};
 use crate::values::{binary, field, is_kind, list, take};
@@ -15,7 +15,7 @@ const MAX_LEVELS: u8 = 32;
 
 /// The value of a field whose kind has this number.
 pub fn pass(kind: u8, bytes: &[u8]) -> Result<&[u8], Flaw>
-    ensures { Gives (λ rest. rest.now) result (passed_at kind bytes.now) }
+    ensures { GivesFront (λ rest. rest.now) result (passed_at kind bytes.now) }
 {
     if !is_kind(kind) {
         return Err(Flaw::BadType { left: bytes.len() });
@@ -41,7 +41,7 @@ fn kind_of(kind: u8) -> Kind
 /// The value of a field: a flag stands in the header.
 #[cycle(passing)]
 fn pass_value(kind: Kind, bytes: &[u8], levels: u8) -> Result<&[u8], Flaw>
-    ensures { Gives (λ rest. rest.now) result (value_passed (element_passed levels) kind bytes.now) }
+    ensures { GivesFront (λ rest. rest.now) result (value_passed (element_passed levels) kind bytes.now) }
 {
     match kind {
         Kind::Flag => Ok(bytes),
@@ -53,7 +53,7 @@ fn pass_value(kind: Kind, bytes: &[u8], levels: u8) -> Result<&[u8], Flaw>
 #[cycle(passing)]
 #[tactic(auto, using(crate::proofs::Passes::list_below, crate::proofs::Passes::map_below, crate::proofs::Passes::struct_below))]
 fn pass_element(kind: Kind, bytes: &[u8], levels: u8) -> Result<&[u8], Flaw>
-    ensures { Gives (λ rest. rest.now) result (element_passed levels kind bytes.now) }
+    ensures { GivesFront (λ rest. rest.now) result (element_passed levels kind bytes.now) }
 {
     match kind {
         Kind::Flag | Kind::Byte => {
@@ -82,7 +82,7 @@ fn pass_element(kind: Kind, bytes: &[u8], levels: u8) -> Result<&[u8], Flaw>
 /// The elements of a list or a set.
 #[cycle(passing)]
 fn pass_list(bytes: &[u8], levels: u8) -> Result<&[u8], Flaw>
-    ensures { Gives (λ rest. rest.now) result (list_passed (element_passed levels) bytes.now) }
+    ensures { GivesFront (λ rest. rest.now) result (list_passed (element_passed levels) bytes.now) }
 {
     let (head, rest) = list(bytes)?;
     pass_each(kind_of(head.kind), head.count, rest, levels)
@@ -91,7 +91,7 @@ fn pass_list(bytes: &[u8], levels: u8) -> Result<&[u8], Flaw>
 /// So many elements.
 #[cycle(passing)]
 fn pass_each(kind: Kind, count: u32, bytes: &[u8], levels: u8) -> Result<&[u8], Flaw>
-    ensures { Gives (λ rest. rest.now) result (each (element_passed levels kind) count bytes.now) }
+    ensures { GivesFront (λ rest. rest.now) result (each (element_passed levels kind) count bytes.now) }
 {
     let mut rest = bytes;
     for _ in 0..count {
@@ -103,7 +103,7 @@ fn pass_each(kind: Kind, count: u32, bytes: &[u8], levels: u8) -> Result<&[u8], 
 /// A map: its count and, where that isn't 0, the kinds of keys and values, and the entries.
 #[cycle(passing)]
 fn pass_map(bytes: &[u8], levels: u8) -> Result<&[u8], Flaw>
-    ensures { Gives (λ rest. rest.now) result (map_passed (element_passed levels) bytes.now) }
+    ensures { GivesFront (λ rest. rest.now) result (map_passed (element_passed levels) bytes.now) }
 {
     let (count, rest) = count(bytes)?;
     if count == 0 {
@@ -124,7 +124,7 @@ fn pass_map(bytes: &[u8], levels: u8) -> Result<&[u8], Flaw>
 /// So many entries, each a key and a value.
 #[cycle(passing)]
 fn pass_entries(key: Kind, value: Kind, count: u32, bytes: &[u8], levels: u8) -> Result<&[u8], Flaw>
-    ensures { Gives (λ rest. rest.now) result (each (entry_passed (element_passed levels) key value) count bytes.now) }
+    ensures { GivesFront (λ rest. rest.now) result (each (entry_passed (element_passed levels) key value) count bytes.now) }
 {
     let mut rest = bytes;
     for _ in 0..count {
@@ -137,7 +137,7 @@ fn pass_entries(key: Kind, value: Kind, count: u32, bytes: &[u8], levels: u8) ->
 /// The fields of a struct, up to its end.
 #[cycle(passing)]
 fn pass_struct(bytes: &[u8], levels: u8) -> Result<&[u8], Flaw>
-    ensures { Gives (λ rest. rest.now) result (struct_passed (element_passed levels) bytes.now) }
+    ensures { GivesFront (λ rest. rest.now) result (struct_passed (element_passed levels) bytes.now) }
 {
     let mut rest = bytes;
     let mut last = 0;

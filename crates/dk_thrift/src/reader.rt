@@ -35,6 +35,7 @@ impl<'a> Reader<'a> {
     ghost use Rattle.std.specs.Prelude.{◌≡◌, ◌≤◌, IfOk, OnOk, length, pos};
     ghost use Rattle.dk_grammar.specs.Grammar.{Spelled, SpellsBinary, SpellsField, SpellsList, SpellsNumber, SpellsWhole};
     ghost use Rattle.dk_grammar.specs.Nested.{SpellsValue, Takes};
+    ghost use Rattle.dk_grammar.specs.Structs.{number_meaning};
     ghost use Rattle.dk_grammar.specs.Passed.{passed_at};
     ghost use Rattle.dk_grammar.specs.Thrift.{binary_at, field_at, list_at, number_at, whole_at};
     ghost use Rattle.dk_thrift.specs.Reading.{Reads, ReadsField, Skips};
@@ -75,7 +76,9 @@ impl<'a> Reader<'a> {
         self.left
     }
 
-    /// A varint of at most 64 bits.
+    /// A varint of at most 64 bits (Thrift compact protocol, "Integer encoding").
+    ///
+    /// `Short` comes exactly where the bytes end inside it, `BadType` with the place of its first byte exactly where it has more bits.
     pub fn varint(&mut self) -> Result<u64, ThriftFault>
         ensures exact { Reads (λ n. n) self.old self.new result (number_at self.old.rest) }
         ensures spelled { IfOk result (λ number. Spelled SpellsNumber self.old.rest number self.new.rest) }
@@ -89,7 +92,9 @@ impl<'a> Reader<'a> {
         }
     }
 
-    /// A whole number: a zigzag varint.
+    /// A whole number of at most 64 bits: a zigzag varint (Thrift compact protocol, "Integer encoding").
+    ///
+    /// The faults are those of [`Reader::varint`].
     pub fn whole(&mut self) -> Result<i64, ThriftFault>
         ensures exact { Reads (λ z. z) self.old self.new result (whole_at self.old.rest) }
         ensures spelled { IfOk result (λ value. Spelled SpellsWhole self.old.rest value self.new.rest) }
@@ -103,7 +108,10 @@ impl<'a> Reader<'a> {
         }
     }
 
-    /// A text or other bytes: a length, and as many bytes. They are a part of the bytes that the reader was made of.
+    /// A text or other bytes: a length in bytes, and as many bytes (Thrift compact protocol, "Binary encoding"). They are a part
+    /// of the bytes that the reader was made of.
+    ///
+    /// `Short` comes exactly where the bytes end before them, `BadType` exactly where the length has more than 64 bits.
     pub fn binary(&mut self) -> Result<&'a [u8], ThriftFault>
         ensures exact { Reads (λ part. part.now) self.old self.new result (binary_at self.old.rest) }
         ensures spelled { IfOk result (λ part. Spelled SpellsBinary self.old.rest part.now self.new.rest) }
@@ -117,7 +125,11 @@ impl<'a> Reader<'a> {
         }
     }
 
-    /// The header of a list or a set.
+    /// The header of a list or a set: how many elements follow, and of which kind (Thrift compact protocol, "List and set
+    /// encoding"). A byte 0 is read as no elements, of kind 0.
+    ///
+    /// `Short` comes exactly where the bytes end inside it. `BadType` comes exactly where another byte names no kind, with its
+    /// place, or the count has more than 32 bits, with that of its first byte.
     pub fn list(&mut self) -> Result<ListHead, ThriftFault>
         ensures exact { Reads (λ head. head) self.old self.new result (list_at self.old.rest) }
         ensures spelled { IfOk result (λ head. Spelled SpellsList self.old.rest head self.new.rest) }
@@ -131,7 +143,10 @@ impl<'a> Reader<'a> {
         }
     }
 
-    /// The next field of the current struct, or its end.
+    /// The header of the next field of the current struct, or the struct's end (Thrift compact protocol, "Struct encoding").
+    ///
+    /// `Short` comes exactly where the bytes end inside it. `BadType` comes exactly where the byte names no kind or its step leads
+    /// past the ids of 16 bits, with its place, or where an id in full has more than 16 bits, with that of its first byte.
     pub fn field(&mut self) -> Result<Field, ThriftFault>
         ensures exact { ReadsField self.old self.new result (field_at self.old.last self.old.rest) }
         ensures spelled { IfOk result (λ field. Spelled (SpellsField self.old.last) self.old.rest field self.new.rest) }
@@ -149,7 +164,10 @@ impl<'a> Reader<'a> {
     }
 
     /// Passes over the value of a field of this kind, with at most 32 levels of structs and containers. The value of a flag,
-    /// kind 1 or 2, stands in its header, so there is nothing to pass over.
+    /// kind 1 or 2, stands in its header, so there is nothing to pass over. A claimed count costs no time that its bytes don't.
+    ///
+    /// `Short` comes exactly where the bytes end inside it, `TooDeep` where a struct or container of level 33 would begin, and
+    /// `BadType` where a kind, a count or a number in it is none, or with the place of the reader where `kind` is none.
     pub fn skip(&mut self, kind: u8) -> Result<(), ThriftFault>
         ensures exact { Skips self.old self.new result (passed_at kind self.old.rest) }
         ensures spelled { OnOk result (Takes (SpellsValue kind) self.old.rest self.new.rest) }
@@ -161,6 +179,18 @@ impl<'a> Reader<'a> {
             }
             Err(flaw) => Err(fault(self.size, flaw)),
         }
+    }
+
+    /// The value of a field of this kind, where it is a whole number of 16, 32 or 64 bits. A value of another kind is passed over,
+    /// and there is `None`. The faults are those of [`Reader::whole`] and [`Reader::skip`].
+    pub fn number(&mut self, kind: u8) -> Result<Option<i64>, ThriftFault>
+        ensures { Reads (λ number. number) self.old self.new result (number_meaning (pos 0) kind self.old.rest) }
+    {
+        if 4 <= kind && kind <= 6 {
+            return Ok(Some(self.whole()?));
+        }
+        self.skip(kind)?;
+        Ok(None)
     }
 }
 

@@ -2,7 +2,7 @@
 
 ghost use Rattle.std.specs.Prelude.{◌≡◌};
 ghost use Rattle.dk_grammar.specs.Thrift.{binary_at, bytes_at, field_at, is_kind, list_at};
-ghost use Rattle.dk_thrift.specs.Gives.{Gives};
+ghost use Rattle.dk_thrift.specs.GivesFront.{GivesFront};
 
 use crate::numbers::{count, id, number};
 use dk_grammar::thrift::{Field, Flaw, ListHead};
@@ -22,7 +22,7 @@ pub fn is_kind(kind: u8) -> bool
 
 /// The header of a field behind the field `last`, or the end of the struct.
 pub fn field(last: i16, bytes: &[u8]) -> Result<(Field, &[u8]), Flaw>
-    ensures { Gives (λ x. (x.0, x.1.now)) result (field_at last bytes.now) }
+    ensures { GivesFront (λ x. (x.0, x.1.now)) result (field_at last bytes.now) }
 {
     let Some((head, rest)) = bytes.split_first() else {
         return Err(Flaw::Short);
@@ -45,16 +45,16 @@ pub fn field(last: i16, bytes: &[u8]) -> Result<(Field, &[u8]), Flaw>
     }
 }
 
-/// The header of a list or a set.
+/// The header of a list or a set. The byte 0 is one of no elements, which need no kind.
 pub fn list(bytes: &[u8]) -> Result<(ListHead, &[u8]), Flaw>
-    ensures { Gives (λ x. (x.0, x.1.now)) result (list_at bytes.now) }
+    ensures { GivesFront (λ x. (x.0, x.1.now)) result (list_at bytes.now) }
 {
     let Some((head, rest)) = bytes.split_first() else {
         return Err(Flaw::Short);
     };
     let short = *head / 16;
     let kind = *head % 16;
-    if !is_kind(kind) {
+    if !is_kind(kind) && *head != 0 {
         return Err(Flaw::BadType { left: bytes.len() });
     }
     if short < SHORT_COUNT {
@@ -72,7 +72,7 @@ pub fn list(bytes: &[u8]) -> Result<(ListHead, &[u8]), Flaw>
 
 /// The first `size` bytes.
 pub fn take(size: u64, bytes: &[u8]) -> Result<(&[u8], &[u8]), Flaw>
-    ensures { Gives (λ x. (x.0.now, x.1.now)) result (bytes_at size bytes.now) }
+    ensures { GivesFront (λ x. (x.0.now, x.1.now)) result (bytes_at size bytes.now) }
 {
     if size > bytes.len() as u64 {
         return Err(Flaw::Short);
@@ -82,7 +82,7 @@ pub fn take(size: u64, bytes: &[u8]) -> Result<(&[u8], &[u8]), Flaw>
 
 /// A length, and as many bytes.
 pub fn binary(bytes: &[u8]) -> Result<(&[u8], &[u8]), Flaw>
-    ensures { Gives (λ x. (x.0.now, x.1.now)) result (binary_at bytes.now) }
+    ensures { GivesFront (λ x. (x.0.now, x.1.now)) result (binary_at bytes.now) }
 {
     let (size, rest) = number(bytes)?;
     take(size, rest)

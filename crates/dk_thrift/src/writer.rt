@@ -50,7 +50,7 @@ impl Writer {
         }
     }
 
-    /// Begins an inner struct: the value of a field of kind 12, or an element of that kind.
+    /// Begins an inner struct: the value of a field of kind 12, or an element of that kind. It writes nothing.
     pub fn enter(&mut self) -> Result<(), AllocError>
         requires { IsOpen self.old }
         ensures { OnOk result (self.new ≡ with_struct self.old) }
@@ -61,7 +61,8 @@ impl Writer {
         Ok(())
     }
 
-    /// A field's header. Its value follows, but for a flag, whose kind is its value: 1 for true and 2 for false.
+    /// A field's header (Thrift compact protocol, "Struct encoding"): one byte where the id is 1 to 15 above the struct's last one,
+    /// else the kind and the whole id. Its value follows, but for a flag, whose kind is its value: 1 for true and 2 for false.
     pub fn field(&mut self, id: i16, kind: u8) -> Result<(), AllocError>
         requires in_struct { IsOpen self.old }
         requires kind { IsTrue (is_kind kind) }
@@ -74,7 +75,7 @@ impl Writer {
         Ok(())
     }
 
-    /// A whole number, as a zigzag varint.
+    /// A whole number, as a zigzag varint (Thrift compact protocol, "Integer encoding").
     pub fn whole(&mut self, value: i64) -> Result<(), AllocError>
         requires { IsOpen self.old }
         ensures written { OnOk result (self.new ≡ with_bytes (whole_bytes value) self.old) }
@@ -83,7 +84,7 @@ impl Writer {
         push_varint(&mut self.bytes, zigzag(value))
     }
 
-    /// A text or other bytes: their number, and they.
+    /// A text or other bytes: their number, and they (Thrift compact protocol, "Binary encoding").
     pub fn binary(&mut self, bytes: &[u8]) -> Result<(), AllocError>
         requires { IsOpen self.old }
         ensures written { OnOk result (self.new ≡ with_bytes (binary_bytes bytes.now) self.old) }
@@ -94,7 +95,7 @@ impl Writer {
         Ok(())
     }
 
-    /// The header of a list or a set.
+    /// The header of a list or a set of so many elements of a kind (Thrift compact protocol, "List and set encoding").
     pub fn list(&mut self, count: u32, kind: u8) -> Result<(), AllocError>
         requires in_struct { IsOpen self.old }
         requires kind { IsTrue (is_kind kind) }
@@ -110,7 +111,7 @@ impl Writer {
         Ok(())
     }
 
-    /// Ends the current struct, and goes back to the outer one.
+    /// Ends the current struct by a zero byte, and goes back to the outer one.
     pub fn end(&mut self) -> Result<(), AllocError>
         requires { IsOpen self.old }
         ensures written { OnOk result (self.new ≡ with_end self.old) }
@@ -121,7 +122,7 @@ impl Writer {
         Ok(())
     }
 
-    /// The bytes.
+    /// The bytes written. It takes no memory.
     pub fn finish(self) -> Vec<u8>
         ensures { result.items ≡ self.bytes }
     {

@@ -1,7 +1,7 @@
 use Rattle.std.proofs.Common.{◌-◌, ◌<◌, ◌++◌, length, take, arith, ap, ◌∙◌}
 use Rattle.dk_grammar.proofs.Runs.{first_length, short_has_none}
 use Rattle.dk_hybrid.proofs.Progress.{advance, ends, stops, only, ended, Found}
-use Rattle.dk_hybrid.specs.Runs.{shown}
+use Rattle.dk_hybrid.specs.Runs.{kept_values}
 use Rattle.dk_hybrid.proofs.decoding.decode.Goals as goal
 use Rattle.dk_hybrid.proofs.decoding.decode.Goals.{After-loop-rest}
 
@@ -16,7 +16,7 @@ loop-rest-preserved c =
     let fewer : length c.loop-rest.values.items < c.args.count = omega arith in
     advance c.args.width c.args.count c.args.bytes.now c.loop-rest.values.items c.loop-rest.rest.now c.in-Some.run' c.in-Some.after.now c.append.new.values.items
     fewer (omega arith) c.loop-rest.invariant c.in-Some.ensures
-    (c.in_ok-append.ensures ∙ ap (λ n. c.loop-rest.values.items ++ take (c.args.count - n) (shown c.args.width c.in-Some.run')) (omega arith))
+    (c.in_ok-append.ensures ∙ ap (λ n. c.loop-rest.values.items ++ take (c.args.count - n) (kept_values c.args.width c.in-Some.run')) (omega arith))
 
 found : (c : After-loop-rest) → Found c.args.width c.args.count c.args.bytes.now c.loop-rest.values.items (length c.args.bytes.now - length c.loop-rest.rest.now)
 found c = ends c.args.width c.args.count c.args.bytes.now c.loop-rest.values.items c.loop-rest.rest.now (omega arith) c.loop-rest.invariant

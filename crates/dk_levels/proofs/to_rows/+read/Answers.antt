@@ -2,7 +2,7 @@ use Rattle.std.proofs.Common.{arith, sym, ap}
 use Rattle.std.proofs.lemmas.Result.{err_from_is_err_and}
 use Rattle.dk_pqmodel.specs.NodeView.{field_of}
 use Rattle.dk_pqmodel.specs.RowView.{cells_of}
-use Rattle.dk_levels.specs.Fronts.{fronts, element_at}
+use Rattle.dk_levels.specs.Fronts.{fronts, repeated_at}
 use Rattle.std.specs.Option.{option_map}
 use Rattle.dk_pqmodel.specs.Datum.{list}
 use Rattle.dk_levels.specs.Reading.{begins, at_repetition}
@@ -49,13 +49,13 @@ read_later-returns-in_err-cell t c =
     let e = sym c.triples_left-most.ensures in
     let p = err_from_is_err_and c.from_residual.result c.from_residual.ensures.1 in
     rw (p.1, p.2, e)
-    (later_fails (element_at c.args.repeated (field_of c.args.node.now) c.args.levels.lists c.args.levels.definition c.args.levels.lists c.args.place)
+    (later_fails (repeated_at c.args.repeated (field_of c.args.node.now) c.args.levels.lists c.args.levels.definition c.args.levels.lists c.args.place)
     (λ ds. begins (at_repetition c.args.levels.lists) ds c.args.place) _ c.loop-i.i (fronts c.loop-i.rest) (cells_of c.loop-i.cells.items) _ c.in_err-cell.field-0.0
     (sym c.if-not-is_at_repetition.ensures) (omega arith) (rw c.requires.later at c.in_err-cell.ensures.cell) c.loop-i.invariant)
 
 pub read_later-loop-i-preserved : goal.read_later-loop-i-preserved
 read_later-loop-i-preserved t c =
-    later_more (element_at c.args.repeated (field_of c.args.node.now) c.args.levels.lists c.args.levels.definition c.args.levels.lists c.args.place)
+    later_more (repeated_at c.args.repeated (field_of c.args.node.now) c.args.levels.lists c.args.levels.definition c.args.levels.lists c.args.place)
     (λ ds. begins (at_repetition c.args.levels.lists) ds c.args.place) _ c.loop-i.i (fronts c.loop-i.rest) (fronts c.read_element.new.rest) c.loop-i.cells.items c.push.new.self.items c.in_ok-cell.cell _
     (sym c.if-not-is_at_repetition.ensures) (omega arith) (rw c.requires.later at c.in_ok-cell.ensures.cell) c.in_ok-push.ensures.items c.loop-i.invariant
 

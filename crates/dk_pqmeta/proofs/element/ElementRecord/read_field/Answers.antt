@@ -3,7 +3,7 @@ use Rattle.std.proofs.lemmas.Int.{to_z-of_z}
 use Rattle.dk_grammar.specs.Structs.{number_meaning}
 use Rattle.dk_grammar.specs.Lists.{held, other, is_held}
 use Rattle.dk_pqmodel.specs.Footer.{ElementFields}
-use Rattle.dk_pqmeta.specs.Readings.{name_at}
+use Rattle.dk_pqmeta.specs.Readings.{text_at}
 use Rattle.dk_pqmeta.specs.Kept.{element_kept, element_number, new_at}
 use Rattle.dk_pqmeta.proofs.Growing.{element_grows}
 use Rattle.dk_pqmeta.proofs.Helds.{held_counts, new_is, other_counts}
@@ -17,7 +17,7 @@ returns-in_ok-read_name c = λ done seen.
     let now = element_kept c.args.self.now in (
       Some (held value),
       (
-        held_counts (pos 4) 8 name_at number_meaning id c.args.kind c.args.reader.now.rest value c.read_name.new.reader.rest test c.in_ok-read_name.ensures.0,
+        held_counts (pos 4) 8 text_at number_meaning id c.args.kind c.args.reader.now.rest value c.read_name.new.reader.rest test c.in_ok-read_name.ensures.0,
         sym
             (element_grows id (Some (held value)) done ∙ ap (λ (k : ElementFields). record k { name = new_at (pos 4) id value k.name }) (sym seen)
             ∙ ap (λ x. record now { name = x }) (new_is (pos 4) 8 id c.args.kind value now.name test)),
@@ -35,7 +35,7 @@ returns-in-Some c = λ done seen.
     let put = rw (to_z-of_z w16 id c.ranges.id, to_z-of_z w64 z fits) at c.put.ensures in (
       Some (other z),
       (
-        other_counts (pos 4) 8 name_at number_meaning id c.args.kind c.args.reader.now.rest (Some z) c.read_number.new.reader.rest test read,
+        other_counts (pos 4) 8 text_at number_meaning id c.args.kind c.args.reader.now.rest (Some z) c.read_number.new.reader.rest test read,
         put ∙ ap (λ k. element_number id z k) seen ∙ sym (element_grows id (Some (other z)) done),
         c.in_ok-number.ensures.1,
       ),

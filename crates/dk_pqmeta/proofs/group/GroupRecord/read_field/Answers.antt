@@ -3,7 +3,7 @@ use Rattle.std.proofs.lemmas.Int.{to_z-of_z}
 use Rattle.dk_grammar.specs.Structs.{number_meaning}
 use Rattle.dk_grammar.specs.Lists.{held, other, is_held, list_of}
 use Rattle.dk_pqmodel.specs.Footer.{GroupFields}
-use Rattle.dk_pqmeta.specs.Readings.{chunk_at}
+use Rattle.dk_pqmeta.specs.Readings.{column_chunk_at}
 use Rattle.dk_pqmeta.specs.Kept.{group_kept, group_number, chunk_kept, new_at}
 use Rattle.dk_pqmeta.proofs.Growing.{group_grows}
 use Rattle.dk_pqmeta.proofs.Helds.{held_counts, new_is, other_counts}
@@ -17,7 +17,7 @@ returns-in_ok-read_structs c = λ done seen.
     let now = group_kept c.args.self.now in (
       Some (held value),
       (
-        held_counts (pos 1) 9 (list_of 12 chunk_at) number_meaning id c.args.kind c.args.reader.now.rest value c.read_structs.new.reader.rest test c.in_ok-read_structs.ensures.0,
+        held_counts (pos 1) 9 (list_of 12 column_chunk_at) number_meaning id c.args.kind c.args.reader.now.rest value c.read_structs.new.reader.rest test c.in_ok-read_structs.ensures.0,
         sym
             (group_grows id (Some (held value)) done ∙ ap (λ (k : GroupFields). record k { columns = new_at (pos 1) id value k.columns }) (sym seen)
             ∙ ap (λ x. record now { columns = x }) (new_is (pos 1) 9 id c.args.kind value now.columns test)),
@@ -35,7 +35,7 @@ returns-in-Some c = λ done seen.
     let put = rw (to_z-of_z w16 id c.ranges.id, to_z-of_z w64 z fits) at c.put.ensures in (
       Some (other z),
       (
-        other_counts (pos 1) 9 (list_of 12 chunk_at) number_meaning id c.args.kind c.args.reader.now.rest (Some z) c.read_number.new.reader.rest test read,
+        other_counts (pos 1) 9 (list_of 12 column_chunk_at) number_meaning id c.args.kind c.args.reader.now.rest (Some z) c.read_number.new.reader.rest test read,
         put ∙ ap (λ k. group_number id z k) seen ∙ sym (group_grows id (Some (other z)) done),
         c.in_ok-number.ensures.1,
       ),
