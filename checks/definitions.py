@@ -1,5 +1,6 @@
 """Draws the entries of docs/DEFINITIONS.md from the comments above the definitions in specs/: each definition that a clause of
-a public function names has one, in the block of its crate. definitions.py compares; definitions.py --write writes them.
+a public function names has one, in the block of its crate, and so has each that one of these names and that has a comment
+of its own. definitions.py compares; definitions.py --write writes them.
 
 A crate's block stands in the document between the lines `<!-- drawn from crates/NAME/specs -->` and `<!-- end -->`; what
 stands outside is written by hand."""
@@ -11,28 +12,42 @@ import textwrap
 from sources import TOP, read_crates
 
 DOCUMENT = TOP / "docs" / "DEFINITIONS.md"
+# modules of worked logs and their events, which define nothing that others build on
+WORKED = re.compile("Example|BrokenRules")
 BLOCK = re.compile(r"<!-- drawn from crates/(\w+)/specs -->\n(.*?)<!-- end -->\n", re.S)
 
 
 def cited(crates):
-    """The definitions that clauses of public functions name, as (crate, module, name)."""
+    """The definitions that clauses of public functions name, and those that these name, as (crate, module, name)."""
     names = set()
     for crate in crates.values():
         for function in crate.functions:
             if function.public:
                 names |= function.cites
+    for crate in crates.values():
+        for definition in crate.definitions:
+            if (crate.name, definition.module, definition.name) in names:
+                names = names | {name for name in definition.cites if has_comment(crates, name)}
     return names
+
+
+def has_comment(crates, name):
+    """Whether this definition is one of the repository with a comment of its own."""
+    crate, module, said = name
+    return crate in crates and any(
+        d.name == said and d.module == module and d.leader is d and d.comment for d in crates[crate].definitions
+    )
 
 
 def entries(crate, names):
     """The entries of a crate: the definitions that share a comment stand in one."""
     together = {}
     for definition in crate.definitions:
-        if (crate.name, definition.module, definition.name) in names:
+        if (crate.name, definition.module, definition.name) in names and not WORKED.search(definition.module):
             together.setdefault(id(definition.leader), (definition.leader, []))[1].append(definition)
     text = ""
     for leader, definitions in together.values():
-        said = ", ".join(f"`{d.name}`" for d in definitions)
+        said = ", ".join(dict.fromkeys(f"`{d.name}`" for d in definitions))
         line = f"{said} (`{definitions[0].module}`): {leader.comment}"
         text += "\n".join(textwrap.wrap(line, 118, initial_indent="- ", subsequent_indent="  ", break_on_hyphens=False)) + "\n"
     return text

@@ -14,7 +14,8 @@ GHOST = re.compile(r"^\s*ghost (\w+)\b")
 OWNER = re.compile(r"^(?:impl(?:<[^>]*>)? (?:.* for )?|(pub )?trait )(\w+)")
 MEMBER = re.compile(r"^\s+(?:pub )?(\w+)(?:,| \{| \(|\(|:)")
 IMPORT = re.compile(r"^\s*ghost use Rattle\.(\w+)\.specs\.([\w.]+)\.\{(.*)\};")
-DEFINED = re.compile(r"^(pub )?(?:(?:abbrev|unfoldable|record|data) (?:pub )?)*(pub )?(?:record |data )?([^\s:(){}]+)(?: \(.*)? :(?: |$)")
+DEFINED = re.compile(r"^(pub )?(?:(?:abbrev|unfoldable|record|data) (?:pub )?)*(pub )?(?:record |data )?([^\s:(){}]+)(?: [({].*)? :(?: |$)")
+USED = re.compile(r"^(?:pub )?use Rattle\.(\w+)\.specs\.([\w.]+)\.\{(.*)\}")
 FIELD = re.compile(r"^\s+(?:pub )?(\w+) :")
 PARAMETER = re.compile(r"(\w+): ")
 WORD = re.compile(r"[A-Za-z_][\w-]*")
@@ -35,13 +36,15 @@ class Function:
 
 class Definition:
     """A definition or lemma: its module, its name, and the comment above it. One without a comment of its own goes with the
-    one before it, which is then its `leader`."""
+    one before it, which is then its `leader`. `words` are those of its text, and `cites` the definitions that they name."""
 
     def __init__(self, module, name, comment, leader):
         self.module = module
         self.name = name
         self.comment = comment
         self.leader = leader or self
+        self.words = set()
+        self.cites = set()
 
 
 class Crate:
@@ -116,8 +119,12 @@ def read_code(crate, path):
 def read_definitions(crate, path, folder, into):
     """Takes the definitions of a file of specs/ or proofs/, each with the comment right above it."""
     module = ".".join(path.relative_to(CRATES / crate.name / folder).with_suffix("").parts)
-    comment, leader, head = [], None, True
+    comment, leader, head, imports, own = [], None, True, {}, []
     for line in path.read_text().splitlines():
+        found = USED.match(line)
+        if found:
+            for name in found.group(3).split(","):
+                imports[name.split(" as ")[-1].strip()] = (found.group(1), found.group(2), name.split(" as ")[0].strip())
         if line.startswith("-- ---- "):
             leader, comment = Definition(module, "", line[8:], None), []
             continue
@@ -131,12 +138,18 @@ def read_definitions(crate, path, folder, into):
         if found and not line.startswith(("use ", "pub use ", "pub mod ", "mod ")):
             definition = Definition(module, found.group(3), " ".join(comment), None if comment else leader)
             leader = definition.leader
-            into.append(definition)
+            own.append(definition)
             crate.within.add((path.stem, definition.name))
         elif FIELD.match(line):
             crate.names.add(FIELD.match(line).group(1))
             crate.within.add((path.stem, FIELD.match(line).group(1)))
+        if own and not line.startswith(("use ", "pub use ")):
+            own[-1].words.update(WORD.findall(line))
         comment = []
+    imports.update({definition.name: (crate.name, module, definition.name) for definition in own})
+    for definition in own:
+        definition.cites = {imports[word] for word in definition.words if word in imports}
+    into.extend(own)
 
 
 def read_crates():
