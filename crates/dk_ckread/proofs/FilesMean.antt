@@ -300,17 +300,19 @@ has_triples : (before : List ℕ) (column : ColumnAt) (chunk : Chunk) (triples :
 has_triples before column chunk triples front bytes behind plain typed whole begins is count = record {
   plain = plain;
   typed = typed;
-  front = front;
-  first = [];
-  pages = (bytes, triples) ∷ [];
-  behind = behind;
-  whole = whole ∙ ap (λ page. front ++ (page ++ behind)) (sym (append-nil bytes));
-  begins = begins;
-  dictionary = None;
-  entries = refl;
-  read = (inl is, tt);
-  joined = sym (append-nil triples);
   count = count;
+  pages = inr (record {
+    front = front;
+    first = [];
+    pages = (bytes, triples) ∷ [];
+    behind = behind;
+    whole = whole ∙ ap (λ page. front ++ (page ++ behind)) (sym (append-nil bytes));
+    begins = begins;
+    dictionary = None;
+    entries = refl;
+    read = (inl is, tt);
+    joined = sym (append-nil triples);
+  });
 }
 
 abbrev add_said_group : RowGroup

@@ -1,2 +1,3 @@
 pub mod FilesMean
 pub mod ParquetExample
+pub mod ForbiddenParquet

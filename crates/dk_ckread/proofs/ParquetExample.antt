@@ -105,7 +105,7 @@ add_read : actions_of_rows add_rows ≡ Some kept_actions
 unfolding rows_on_literals
 add_read = refl
 
-head_has : InParquet head_file first_actions
+pub head_has : InParquet head_file first_actions
 head_has = record { rows = head_rows; means = head_file_means; read = head_read }
 
 add_has : InParquet add_file kept_actions

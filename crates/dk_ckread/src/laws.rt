@@ -1,14 +1,19 @@
 //! Laws of what is read of checkpoints, each without a premise on Parquet files. None of these functions does anything when it runs.
 
-ghost use Rattle.dk_ckread.specs.ParquetExample.{in_one_object, in_parts, parts_in_use, with_sidecar};
+ghost use Rattle.std.specs.Prelude.{pos};
+ghost use Rattle.dk_ckread.specs.ParquetExample.{first_part, in_one_object, in_parts, parts_in_use, with_sidecar};
 ghost use Rattle.dk_ckread.specs.ParquetFiles.{add_file, head_file};
 ghost use Rattle.dk_ckread.specs.ParquetRows.{add_rows, head_rows};
 ghost use Rattle.dk_lawful.specs.CheckpointLaws.{CheckpointMeansOne, ReadPartsStand, ReadTopsStand};
 ghost use Rattle.dk_lawful.specs.ContentLaws.{ClassicMayBeMade, V2MayBeMade};
 ghost use Rattle.dk_lawful.specs.CheckpointSchema.{read_fields};
+ghost use Rattle.dk_lawful.specs.Example.{IsForbidden, example};
 ghost use Rattle.dk_lawful.specs.MoreExamples.{IsLawfulAfter};
+ghost use Rattle.dk_lawful.specs.Openable.{EachFromFloorIsKept};
 ghost use Rattle.dk_lawful.specs.SegmentLaws.{ReadAgrees};
+ghost use Rattle.dk_paths.specs.Places.{Part, place_path};
 ghost use Rattle.dk_pqmodel.specs.FileMeans.{FileMeans};
+ghost use Rattle.dk_store.specs.Told.{Made};
 
 /// A checkpoint means at most one list of actions, in one object with its sidecars or in parts. So whatever is read of a complete
 /// checkpoint of a lawful log stands for the state at its version, but that it may leave out expired tombstones (Delta Lake's
@@ -46,4 +51,17 @@ pub fn checkpoints_in_parquet_come()
     ensures in_parts { IsLawfulAfter in_parts }
     ensures parts_in_use { IsLawfulAfter parts_in_use }
     ensures with_sidecar { IsLawfulAfter with_sidecar }
+{}
+
+/// On a lawful log each version of the history from the floor on can be opened, for every choice with the newest checkpoint: no
+/// commit is missing of what it is read from, and each sidecar that its checkpoint names stands (Delta Lake's PROTOCOL.md, "Metadata
+/// Cleanup").
+pub fn versions_stay_kept()
+    ensures { EachFromFloorIsKept }
+{}
+
+/// Parts in Parquet that may not come: one that has another part's share, and one of a version that isn't published.
+pub fn forbidden_parts()
+    ensures other_share { IsForbidden (first_part example) (Made (place_path (Part 1 2 2)) head_file (pos 3)) }
+    ensures beyond { IsForbidden example (Made (place_path (Part 2 1 2)) head_file (pos 3)) }
 {}

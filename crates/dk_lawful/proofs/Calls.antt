@@ -11,7 +11,7 @@ use Rattle.dk_store.specs.Writing.{deleted}
 use Rattle.dk_paths.specs.Places.{Place, Commit_at, Classic, Part, V2, Compacted, Hint, Sidecar, Staged, Other, place_of}
 use Rattle.dk_lawful.specs.Permits.{Permits, MayOver, MayDelete}
 use Rattle.dk_lawful.specs.Lawful.{Lawful}
-use Rattle.dk_lawful.specs.Kept.{IfBoth, ReachesCut, StaysLawful, KeepsLawful, StaysLawfulPast, KeepsLawfulPast}
+use Rattle.dk_lawful.specs.Kept.{IfBoth, ReachesCut, StaysLawful, StaysLawfulPast, KeepsLawfulPast}
 use Rattle.dk_lawful.specs.Calls.{PutNewKeepsLawful, PutOverKeepsLawful, DeleteKeepsLawful, RatifyKeepsLawful, ForgetKeepsLawful, NoCutIsSame, SameIsPastEach, KeepsLawfulOnwards}
 use Rattle.dk_lawful.proofs.Structure.{greater_horizon_is_lawful}
 

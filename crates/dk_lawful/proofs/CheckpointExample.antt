@@ -1,5 +1,5 @@
 -- Checkpoints come lawfully after the example, and what they make needless goes; and objects that are none may not come.
-use Rattle.std.proofs.Common.{◌≡◌, ℕ, ℤ, pos, ◌<◌, true, ◌⊎◌, inl, inr, take, List, [], ◌∷◌, ◌++◌, Some, codes, refl, sym, ap, subst, ◌∙◌, arith}
+use Rattle.std.proofs.Common.{◌≡◌, ℕ, ℤ, pos, ◌<◌, true, ◌⊎◌, inl, inr, take, length, List, [], ◌∷◌, ◌++◌, Some, codes, refl, sym, ap, subst, ◌∙◌, arith}
 use Rattle.std.specs.List.{filter_map}
 use Rattle.percent_encoding.specs.Percent.{percent_decode}
 use Rattle.dk_model.specs.declared.action.Action.{Action}
@@ -9,21 +9,24 @@ use Rattle.dk_model.specs.CommitText.{commit_of}
 use Rattle.dk_model.specs.State.{steps, fold, empty_state}
 use Rattle.dk_store.specs.Told.{Told, Made, Deleted}
 use Rattle.dk_paths.specs.Names.{commit_path}
-use Rattle.dk_paths.specs.Places.{Place, Commit_at, V2, Compacted, place_path, IsPlace}
+use Rattle.dk_paths.specs.Places.{Place, Commit_at, V2, Compacted, place_of, place_path, IsPlace}
 use Rattle.dk_paths.proofs.PlaceLaws.{place_of_path}
 use Rattle.dk_lawful.specs.Present.{Holds, Present, AtMostPublished}
 use Rattle.dk_lawful.specs.History.{RatifiedCommit, after_made, history, commits_of, table_at}
 use Rattle.dk_lawful.specs.Agree.{Agree}
 use Rattle.dk_lawful.specs.Checkpoints.{sidecar_of_path, with_name, sidecars_of, Top, HasTop, version_in, Among}
+use Rattle.dk_lawful.specs.Floor.{IsBelow}
 use Rattle.dk_lawful.specs.Permits.{MayMake, MayDelete, MakesTop}
 use Rattle.dk_lawful.specs.Lawful.{Lawful}
 use Rattle.dk_lawful.specs.Example.{first_text, first_actions, second_text, second_actions, example}
 use Rattle.dk_lawful.specs.MoreExamples.{IsLawfulAfter, compacting, side_name}
-use Rattle.dk_lawful.specs.CheckpointExample.{mark_text_0, mark_text_1, side_text, older_text, older_actions, whole_text, whole_actions, lacking_text, lacking_actions, naming_text, naming_actions, checkpointing, clearing}
+use Rattle.dk_lawful.specs.CheckpointExample.{ClearedFloor, mark_text_0, mark_text_1, side_text, older_text, older_actions, whole_text, whole_actions, lacking_text, lacking_actions, naming_text, naming_actions, checkpointing, clearing}
 use Rattle.dk_lawful.proofs.SegmentsAgree.{agrees_itself}
 use Rattle.dk_lawful.proofs.OnTexts.{commits_on_literals}
 use Rattle.dk_lawful.proofs.OneMeaning.{one_value}
-use Rattle.dk_lawful.proofs.Standing.{found_made, kept_made, kept_deleted, made_here}
+use Rattle.dk_lawful.proofs.Standing.{commit_place, found_made, kept_made, kept_deleted, made_here}
+use Rattle.dk_lawful.proofs.Sound.{length_commits}
+use Rattle.dk_lawful.proofs.Stays.{from_last}
 use Rattle.dk_lawful.proofs.Example.{only_commits}
 use Rattle.dk_lawful.proofs.MoreExamples.{free_at, example_commits, compacting_is_lawful, example_published}
 
@@ -62,7 +65,7 @@ names_these bytes actions names top means named has =
     one_value (sidecars_of actions) top.sidecars names (ap sidecars_of (sym (has_these bytes actions top means has)) ∙ has.named) named
 
 -- a checkpoint of this form that names no sidecar
-makes_json : (events : List Told) (version id : ℕ) (bytes : List ℕ) (actions : List Action) (horizon : ℤ) → AtMostPublished events version → commit_of bytes ≡ Some actions
+pub makes_json : (events : List Told) (version id : ℕ) (bytes : List ℕ) (actions : List Action) (horizon : ℤ) → AtMostPublished events version → commit_of bytes ≡ Some actions
     → filter_map version_in actions ≡ version ∷ [] → sidecars_of actions ≡ Some [] → steps empty_state (actions ++ []) ≡ table_at events version
     → MakesTop events (V2 version id true) version bytes horizon
 makes_json events version id bytes actions horizon published means versions alone leads = record {
@@ -78,19 +81,19 @@ makes_json events version id bytes actions horizon published means versions alon
 -- ---- the lists
 
 -- one more event on a lawful list
-made : (events : List Told) (place : Place) (bytes : List ℕ) (stamp horizon : ℤ) → Lawful events horizon → IsPlace place → ((held : List ℕ) → Holds events place held → ⊥)
+pub made : (events : List Told) (place : Place) (bytes : List ℕ) (stamp horizon : ℤ) → Lawful events horizon → IsPlace place → ((held : List ℕ) → Holds events place held → ⊥)
     → MayMake events place bytes horizon → Lawful (Made (place_path place) bytes stamp ∷ events) horizon
 made events place bytes stamp horizon lawful is none may =
     ((free_at events place is none, subst (λ p. MayMake events p bytes horizon) (sym (place_of_path place is)) may), lawful)
 
-gone : (events : List Told) (place : Place) (horizon : ℤ) → Lawful events horizon → IsPlace place → MayDelete events place → Lawful (Deleted (place_path place) ∷ events) horizon
+pub gone : (events : List Told) (place : Place) (horizon : ℤ) → Lawful events horizon → IsPlace place → MayDelete events place → Lawful (Deleted (place_path place) ∷ events) horizon
 gone events place horizon lawful is may = (subst (MayDelete events) (sym (place_of_path place is)) may, lawful)
 
 -- what stands after an object was made at a place
-abbrev OnlyAt : List Told → (Place → Type 0) → Type 0
+abbrev pub OnlyAt : List Told → (Place → Type 0) → Type 0
 OnlyAt events P = (place : Place) (held : List ℕ) → Holds events place held → P place
 
-also_at : (events : List Told) (P : Place → Type 0) (here : Place) (bytes : List ℕ) (stamp : ℤ) → IsPlace here → OnlyAt events P
+pub also_at : (events : List Told) (P : Place → Type 0) (here : Place) (bytes : List ℕ) (stamp : ℤ) → IsPlace here → OnlyAt events P
     → OnlyAt (Made (place_path here) bytes stamp ∷ events) (λ place. (here ≡ place) ⊎ P place)
 also_at events P here bytes stamp is only place held holds = elim (found_made events (place_path here) bytes stamp place held holds) [
   | inl (at, same) ↦ inl (sym (place_of_path here is) ∙ at)
@@ -116,7 +119,7 @@ only_older : OnlyAt (Made (place_path (V2 0 6 true)) older_text (pos 3) ∷ comp
 only_older = also_at (compacting example) (λ place. (Compacted 0 1 ≡ place) ⊎ IsCommitPlace place) (V2 0 6 true) older_text (pos 3) older_is only_compacted
 
 -- the history stays that of the example
-quiet : (events : List Told) (place : Place) (bytes : List ℕ) (stamp : ℤ) → IsPlace place → ((h : List RatifiedCommit) → after_made h place bytes ≡ h)
+pub quiet : (events : List Told) (place : Place) (bytes : List ℕ) (stamp : ℤ) → IsPlace place → ((h : List RatifiedCommit) → after_made h place bytes ≡ h)
     → history (Made (place_path place) bytes stamp ∷ events) ≡ history events
 quiet events place bytes stamp is adds = ap (λ p. after_made (history events) p bytes) (place_of_path place is) ∙ adds (history events)
 
@@ -188,3 +191,13 @@ clearing_is_lawful horizon =
     (gone (checkpointing example) (Commit_at 0) horizon (checkpointing_is_lawful horizon) (omega arith) ((1, (omega arith), inr (inl (7, (true, whole_stands)))), refl))
     compacted_is (1, (omega arith), inr (inl (7, (true, commit_gone)))))
     older_is (1, (omega arith), inr (inl (7, (true, compacted_gone))))
+
+-- what the first deletion took is needed below version 1 alone
+pub cleared_floor : ClearedFloor
+cleared_floor = ((λ from. none_at_zero from.1.1.0), from_last (clearing example) (pos 0) (clearing_is_lawful (pos 0)) 1 (let long = ap length cleared_commits in let same = length_commits (history (clearing example)) in omega (arith, long, same)))
+  where
+    cleared_commits : commits_of (history (clearing example)) ≡ first_actions ∷ second_actions ∷ []
+    cleared_commits = whole_commits
+
+    none_at_zero : IsBelow (checkpointing example) (place_of (commit_path 0)) 0 → ⊥
+    none_at_zero below = let (checkpoint, low, high, complete) = subst (λ place. IsBelow (checkpointing example) place 0) (commit_place 0 (omega arith)) below in omega arith

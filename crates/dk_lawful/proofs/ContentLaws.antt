@@ -19,7 +19,8 @@ use Rattle.dk_model.specs.WellKept.{IsWellKept}
 use Rattle.dk_lawful.specs.Agree.{Agree}
 use Rattle.dk_lawful.specs.Shares.{files_up_to, cut_of, files_of, has_path, SetsAllElse}
 use Rattle.dk_lawful.specs.Checkpoints.{sidecars_of, version_in, is_file_action}
-use Rattle.dk_lawful.specs.Contents.{heads, live_file, is_later, removal, recorded, configured, adds, removals, named_actions, all_with, has_v2, mark, v2_content}
+use Rattle.dk_model.specs.Contents.{heads, live_file, is_later, removal, recorded, configured, adds, removals, named_actions, canonical_with}
+use Rattle.dk_lawful.specs.Contents.{has_v2, mark, v2_content}
 use Rattle.dk_lawful.specs.ContentLaws.{ClassicStands, PartHasShare, sidecars_content, V2Stands, V2SaysVersion, SidecarsHaveFiles, StandingComposes, ShareComposes}
 use Rattle.dk_lawful.proofs.Words.{AreOf, entries_are_of, drop_is_of, take_is_of}
 use Rattle.dk_lawful.proofs.ContentsStand.{sets_files, sets_all_else, says_files, says_all_with, says_first}
@@ -47,11 +48,11 @@ upto_all actions whole cut sets = record {
   unexpired = sets.unexpired;
 }
 
-all_stand : (state : TableState) (cut : ℤ) → IsWellKept state → Agree (steps empty_state (all_with state cut (files_of state))) state cut
+all_stand : (state : TableState) (cut : ℤ) → IsWellKept state → Agree (steps empty_state (canonical_with state (is_later cut) (files_of state))) state cut
 all_stand state cut kept =
-    whole_agrees (steps empty_state (all_with state cut (files_of state))) state cut
-    (upto_all (all_with state cut (files_of state)) state cut
-    (sets_all_else (all_with state cut (files_of state)) state (files_of state) cut kept (says_all_with state cut (files_of state) kept (entries_are_of state.files))))
+    whole_agrees (steps empty_state (canonical_with state (is_later cut) (files_of state))) state cut
+    (upto_all (canonical_with state (is_later cut) (files_of state)) state cut
+    (sets_all_else (canonical_with state (is_later cut) (files_of state)) state (files_of state) cut kept (says_all_with state cut (files_of state) kept (entries_are_of state.files))))
 
 mark_does_nothing : (marks : Bool) (version : ℕ) (actions : List Action) → steps empty_state actions ≡ steps empty_state ((if marks then mark version ∷ [] else []) ++ actions)
 mark_does_nothing true version actions = refl
@@ -59,7 +60,7 @@ mark_does_nothing false version actions = refl
 
 pub classic_stands : ClassicStands
 classic_stands state version cut kept =
-    subst (λ (s : TableState). Agree s state cut) (mark_does_nothing (has_v2 state) version (all_with state cut (files_of state))) (all_stand state cut kept)
+    subst (λ (s : TableState). Agree s state cut) (mark_does_nothing (has_v2 state) version (canonical_with state (is_later cut) (files_of state))) (all_stand state cut kept)
 
 -- ---- sidecars that are named
 
@@ -91,17 +92,17 @@ module _ {R : Type 0} (look : List Action → R) (state : TableState) where
       → ((e : List ℕ × List ℕ) (more : List Action) → look (configured e ∷ more) ≡ look more) → look (named_actions state) ≡ look []
   skips_named_all no_record no_domain = ap look (sym (append-nil (named_actions state))) ∙ skips_named [] no_record no_domain
 
-pub all_quiet : (state : TableState) (cut : ℤ) (files : List (List ℕ × AddFile)) → sidecars_of (all_with state cut files) ≡ Some []
+pub all_quiet : (state : TableState) (cut : ℤ) (files : List (List ℕ × AddFile)) → sidecars_of (canonical_with state (is_later cut) files) ≡ Some []
 all_quiet state cut files =
-    skips_heads sidecars_of state (adds files ++ (removals state cut ++ named_actions state)) (λ p more. refl) (λ m more. refl)
-    ∙ skips sidecars_of live_file files (removals state cut ++ named_actions state) (λ e more. refl)
+    skips_heads sidecars_of state (adds files ++ (removals state (is_later cut) ++ named_actions state)) (λ p more. refl) (λ m more. refl)
+    ∙ skips sidecars_of live_file files (removals state (is_later cut) ++ named_actions state) (λ e more. refl)
     ∙ skips sidecars_of removal (filter (is_later cut) (entries state.tombstones)) (named_actions state) (λ e more. refl)
     ∙ skips_named_all sidecars_of state (λ e more. refl) (λ e more. refl)
 
 pub part_has_share : PartHasShare
 part_has_share state cut zero parts kept some most = absurd (omega arith)
 part_has_share state cut (suc zero) parts kept some most = (
-  sets_all_else (all_with state cut (cut_of 0 parts (files_of state))) state (cut_of 0 parts (files_of state)) cut kept
+  sets_all_else (canonical_with state (is_later cut) (cut_of 0 parts (files_of state))) state (cut_of 0 parts (files_of state)) cut kept
       (says_all_with state cut (cut_of 0 parts (files_of state)) kept (cut_is_of state 0 parts)),
   all_quiet state cut (cut_of 0 parts (files_of state)),
 )
@@ -126,8 +127,8 @@ module _ (state : TableState) (version : ℕ) (cut : ℤ) (kept : IsWellKept sta
   sidecars_upto : (before : ℕ) → suc before ≤ count
       → UpTo (steps empty_state (tops ++ sidecars_content state cut (suc before) count)) state (take (files_up_to (suc before) count (length (files_of state))) (files_of state)) cut
   sidecars_upto zero most =
-      first_part (tops ++ (adds (cut_of 0 count (files_of state)) ++ removals state cut)) state count cut
-      (sets_all_else (tops ++ (adds (cut_of 0 count (files_of state)) ++ removals state cut)) state (cut_of 0 count (files_of state)) cut kept
+      first_part (tops ++ (adds (cut_of 0 count (files_of state)) ++ removals state (is_later cut))) state count cut
+      (sets_all_else (tops ++ (adds (cut_of 0 count (files_of state)) ++ removals state (is_later cut))) state (cut_of 0 count (files_of state)) cut kept
       (says_first state cut (cut_of 0 count (files_of state)) kept (cut_is_of state 0 count) version references))
   sidecars_upto (suc before) most =
       let last = adds (cut_of (suc before) count (files_of state)) in
@@ -141,7 +142,7 @@ module _ (state : TableState) (version : ℕ) (cut : ℤ) (kept : IsWellKept sta
 
 pub v2_stands : V2Stands
 v2_stands state version cut [] kept =
-    subst (λ (actions : List Action). Agree (steps empty_state actions) state cut) (sym (append-nil (mark version ∷ all_with state cut (files_of state)))) (all_stand state cut kept)
+    subst (λ (actions : List Action). Agree (steps empty_state actions) state cut) (sym (append-nil (mark version ∷ canonical_with state (is_later cut) (files_of state)))) (all_stand state cut kept)
 v2_stands state version cut (reference ∷ references) kept =
     all_parts (steps empty_state (v2_content state version cut (reference ∷ references) ++ sidecars_content state cut (suc (length references)) (suc (length references)))) state (suc (length references)) cut (omega arith)
     (sidecars_upto state version cut kept (reference ∷ references) (suc (length references)) (omega arith) (length references) (omega arith))
@@ -149,8 +150,8 @@ v2_stands state version cut (reference ∷ references) kept =
 pub v2_says_version : V2SaysVersion
 v2_says_version state version cut [] =
     ap (λ vs. version ∷ vs)
-    (skips_heads (filter_map version_in) state (adds (files_of state) ++ (removals state cut ++ named_actions state)) (λ p more. refl) (λ m more. refl)
-    ∙ skips (filter_map version_in) live_file (files_of state) (removals state cut ++ named_actions state) (λ e more. refl)
+    (skips_heads (filter_map version_in) state (adds (files_of state) ++ (removals state (is_later cut) ++ named_actions state)) (λ p more. refl) (λ m more. refl)
+    ∙ skips (filter_map version_in) live_file (files_of state) (removals state (is_later cut) ++ named_actions state) (λ e more. refl)
     ∙ skips (filter_map version_in) removal (filter (is_later cut) (entries state.tombstones)) (named_actions state) (λ e more. refl)
     ∙ skips_named_all (filter_map version_in) state (λ e more. refl) (λ e more. refl))
 v2_says_version state version cut (reference ∷ references) =
@@ -162,7 +163,7 @@ v2_says_version state version cut (reference ∷ references) =
 pub sidecars_have_files : SidecarsHaveFiles
 sidecars_have_files state cut zero count = refl
 sidecars_have_files state cut (suc zero) count =
-    skips (list_all is_file_action) live_file (cut_of 0 count (files_of state)) (removals state cut) (λ e more. refl)
+    skips (list_all is_file_action) live_file (cut_of 0 count (files_of state)) (removals state (is_later cut)) (λ e more. refl)
     ∙ skips_all (list_all is_file_action) removal (filter (is_later cut) (entries state.tombstones)) (λ e more. refl)
 sidecars_have_files state cut (suc (suc before)) count = skips_all (list_all is_file_action) live_file (cut_of (suc before) count (files_of state)) (λ e more. refl)
 

@@ -2,7 +2,7 @@
 use Rattle.std.proofs.Common.{◌≡◌, ℕ, ℤ, ◌<ℤ◌, ◌⊎◌, inl, inr, Bool, true, false, List, [], ◌∷◌, ◌++◌, map, filter, Option, Some, None, option_map, if◌then◌else◌, refl, sym, ap, ap₂, subst, ◌∙◌}
 use Rattle.std.specs.Prelude.{is_some, int_lt, IfSome, T}
 use Rattle.std.specs.List.{AllByRecursion}
-use Rattle.std.specs.Option.{option_to_list}
+use Rattle.std.specs.Option.{option_or, option_to_list}
 use Rattle.std.specs.Ordering.{nat_cmp}
 use Rattle.std.specs.Cmp.Lexicographic.{slice_cmp}
 use Rattle.std.specs.FinMap.{get, find, entries, get-entries, get-empty, same_map}
@@ -15,13 +15,14 @@ use Rattle.dk_model.specs.declared.action.Action.TheVariants as action
 use Rattle.dk_model.specs.declared.action.SidecarRef.{SidecarRef}
 use Rattle.dk_model.specs.declared.state.Application.{Application}
 use Rattle.dk_model.specs.declared.state.TableState.{TableState}
-use Rattle.dk_model.specs.Changes.{Change, live, gone, or_else, is_same_text, change_at, application_at, domain_at, protocol_in, metadata_in, last_some}
+use Rattle.dk_model.specs.Changes.{Change, live, gone, is_same_text, change_at, application_at, domain_at, protocol_in, metadata_in, last_some}
 use Rattle.dk_model.specs.State.{steps, empty_state}
 use Rattle.dk_model.specs.WellKept.{IsWellKept}
 use Rattle.dk_model.proofs.Changes.{file_given, tombstone_given, domain_given, get-files-steps, get-tombstones-steps, get-applications-steps, get-domains-steps, protocol-steps, metadata-steps}
 use Rattle.dk_model.proofs.TextMaps.{text_order}
 use Rattle.dk_lawful.specs.Shares.{has_path, SetsFiles, SetsAllElse}
-use Rattle.dk_lawful.specs.Contents.{heads, live_file, is_later, removal, recorded, configured, adds, removals, named_actions, all_with, mark}
+use Rattle.dk_model.specs.Contents.{heads, live_file, is_later, removal, recorded, configured, adds, removals, named_actions, canonical_with}
+use Rattle.dk_lawful.specs.Contents.{mark}
 use Rattle.dk_lawful.proofs.Words.{AreOf, entries_are_of, filter_is_of, found_filtered, none_after, last_of_both, last_of_none, last_of_entries}
 
 -- ---- the last words of each group of actions
@@ -55,7 +56,7 @@ abbrev has_later : TableState → ℤ → List ℕ → Bool
 has_later state cut path = is_some (find (slice_cmp nat_cmp) path (later state cut))
 
 removals_words : (state : TableState) (cut : ℤ) (path : List ℕ)
-    → last_some (change_at path) (removals state cut) ≡ (if has_later state cut path then option_map gone (get state.tombstones path) else None)
+    → last_some (change_at path) (removals state (is_later cut)) ≡ (if has_later state cut path then option_map gone (get state.tombstones path) else None)
 removals_words state cut path =
     last_of_entries (change_at path) path removal gone state.tombstones (later state cut)
     (filter_is_of state.tombstones (is_later cut) (entries state.tombstones) (entries_are_of state.tombstones)) (removes (later state cut) path)
@@ -107,7 +108,7 @@ heads_silent : {W : Type 0} (word : Action → Option W) → ((p : Protocol) →
     → (state : TableState) → last_some word (heads state) ≡ None
 heads_silent word no_protocol no_metadata state =
     last_of_both word (map (λ p. action.Protocol p) (option_to_list state.protocol)) (map (λ m. action.Metadata m) (option_to_list state.metadata))
-    ∙ ap₂ or_else (last_of_none word (λ m. action.Metadata m) (option_to_list state.metadata) no_metadata) (last_of_none word (λ p. action.Protocol p) (option_to_list state.protocol) no_protocol)
+    ∙ ap₂ option_or (last_of_none word (λ m. action.Metadata m) (option_to_list state.metadata) no_metadata) (last_of_none word (λ p. action.Protocol p) (option_to_list state.protocol) no_protocol)
 
 -- ---- what a list does by its last words
 
@@ -122,7 +123,7 @@ pub record SaysFiles (actions : List Action) (whole : TableState) (files : List 
 -- the words of all else too
 pub record SaysAllElse (actions : List Action) (whole : TableState) (files : List (List ℕ × AddFile)) (cut : ℤ) : Type 0 where
   pub paths : (path : List ℕ) → last_some (change_at path) actions
-      ≡ or_else (if has_later whole cut path then option_map gone (get whole.tombstones path) else None) (if has_path files path then option_map live (get whole.files path) else None)
+      ≡ option_or (if has_later whole cut path then option_map gone (get whole.tombstones path) else None) (if has_path files path then option_map live (get whole.files path) else None)
   pub protocol : last_some protocol_in actions ≡ whole.protocol
   pub metadata : last_some metadata_in actions ≡ whole.metadata
   pub applications : (path : List ℕ) → last_some (application_at path) actions ≡ get whole.applications path
@@ -149,10 +150,10 @@ sets_files actions whole files among words = record {
       ∙ file_there (has_path files path) (get whole.files path) (get state.files path) (among path);
   takes = λ state path. get-tombstones-steps actions state path ∙ ap (λ c. tombstone_given c (get state.tombstones path)) (words.paths path)
       ∙ tombstone_there (has_path files path) (get whole.files path) (get state.tombstones path) (among path);
-  protocol = λ state. protocol-steps actions state ∙ ap (λ o. or_else o state.protocol) words.protocol;
-  metadata = λ state. metadata-steps actions state ∙ ap (λ o. or_else o state.metadata) words.metadata;
+  protocol = λ state. protocol-steps actions state ∙ ap (λ o. option_or o state.protocol) words.protocol;
+  metadata = λ state. metadata-steps actions state ∙ ap (λ o. option_or o state.metadata) words.metadata;
   applications = λ state. same_map nat_list_cmp_total text_order (steps state actions).applications state.applications
-      (λ path. get-applications-steps actions state path ∙ ap (λ o. or_else o (get state.applications path)) (words.applications path));
+      (λ path. get-applications-steps actions state path ∙ ap (λ o. option_or o (get state.applications path)) (words.applications path));
   domains = λ state. same_map nat_list_cmp_total text_order (steps state actions).domains state.domains
       (λ path. get-domains-steps actions state path ∙ ap (λ o. domain_given o (get state.domains path)) (words.domains path));
 }
@@ -162,7 +163,7 @@ abbrev Apart : Option AddFile → Option ℤ → Type 0
 Apart file tombstone = (file ≡ None) ⊎ (tombstone ≡ None)
 
 file_else : (has has_gone : Bool) (got : Option AddFile) (tombstone : Option ℤ) → Apart got tombstone
-    → file_given (or_else (if has_gone then option_map gone tombstone else None) (if has then option_map live got else None)) None ≡ (if has then got else None)
+    → file_given (option_or (if has_gone then option_map gone tombstone else None) (if has then option_map live got else None)) None ≡ (if has then got else None)
 file_else true true None (Some t) apart = refl
 file_else true true (Some f) (Some t) apart = elim apart [
   | inl no_file ↦ absurd (let wrong : ◌≡◌ {A = Option AddFile} (Some f) None = no_file in cc)
@@ -177,7 +178,7 @@ file_else false true got (Some t) apart = refl
 file_else false false got tombstone apart = refl
 
 tombstone_only : (has has_gone : Bool) (got : Option AddFile) (tombstone : Option ℤ) (time : ℤ)
-    → tombstone_given (or_else (if has_gone then option_map gone tombstone else None) (if has then option_map live got else None)) None ≡ Some time → tombstone ≡ Some time
+    → tombstone_given (option_or (if has_gone then option_map gone tombstone else None) (if has then option_map live got else None)) None ≡ Some time → tombstone ≡ Some time
 tombstone_only has true got (Some t) time is = is
 tombstone_only true true (Some f) None time is = absurd (let no : ◌≡◌ {A = Option ℤ} None (Some time) = is in cc)
 tombstone_only true true None None time is = is
@@ -205,7 +206,7 @@ sets_all_else actions whole files cut kept words = record {
   protocol = protocol-steps actions empty_state ∙ none_after (last_some protocol_in actions) ∙ words.protocol;
   metadata = metadata-steps actions empty_state ∙ none_after (last_some metadata_in actions) ∙ words.metadata;
   applications = same_map nat_list_cmp_total text_order (steps empty_state actions).applications whole.applications (λ path.
-      get-applications-steps actions empty_state path ∙ ap₂ or_else (words.applications path) (get-empty (slice_cmp nat_cmp) path) ∙ none_after (get whole.applications path));
+      get-applications-steps actions empty_state path ∙ ap₂ option_or (words.applications path) (get-empty (slice_cmp nat_cmp) path) ∙ none_after (get whole.applications path));
   domains = same_map nat_list_cmp_total text_order (steps empty_state actions).domains whole.domains (λ path.
       get-domains-steps actions empty_state path ∙ ap₂ domain_given (words.domains path) (get-empty (slice_cmp nat_cmp) path) ∙ given_back (get whole.domains path));
   none_more = λ path time is.
@@ -213,7 +214,7 @@ sets_all_else actions whole files cut kept words = record {
       (sym (get-tombstones-steps actions empty_state path ∙ ap₂ tombstone_given (words.paths path) (get-empty (slice_cmp nat_cmp) path)) ∙ is);
   unexpired = λ path time is above.
       get-tombstones-steps actions empty_state path ∙ ap₂ tombstone_given (words.paths path) (get-empty (slice_cmp nat_cmp) path)
-      ∙ ap₂ (λ (b : Bool) (t : Option ℤ). tombstone_given (or_else (if b then option_map gone t else None) (if has_path files path then option_map live (get whole.files path) else None)) None)
+      ∙ ap₂ (λ (b : Bool) (t : Option ℤ). tombstone_given (option_or (if b then option_map gone t else None) (if has_path files path then option_map live (get whole.files path) else None)) None)
       (later_there whole cut path time is above) is;
 }
   where
@@ -223,8 +224,8 @@ sets_all_else actions whole files cut kept words = record {
 
 -- ---- the words of what is written
 
-two : {W : Type 0} (word : Action → Option W) (xs ys : List Action) (x y : Option W) → last_some word xs ≡ x → last_some word ys ≡ y → last_some word (xs ++ ys) ≡ or_else y x
-two word xs ys x y is_x is_y = last_of_both word xs ys ∙ ap₂ or_else is_y is_x
+two : {W : Type 0} (word : Action → Option W) (xs ys : List Action) (x y : Option W) → last_some word xs ≡ x → last_some word ys ≡ y → last_some word (xs ++ ys) ≡ option_or y x
+two word xs ys x y is_x is_y = last_of_both word xs ys ∙ ap₂ option_or is_y is_x
 
 named_silent : {W : Type 0} (word : Action → Option W) → ((e : List ℕ × Application) → word (recorded e) ≡ None) → ((e : List ℕ × List ℕ) → word (configured e) ≡ None)
     → (state : TableState) → last_some word (named_actions state) ≡ None
@@ -272,37 +273,37 @@ module _ (state : TableState) (cut : ℤ) (files : List (List ℕ × AddFile)) (
       (last_of_none (domain_at path) recorded (entries state.applications) (λ e. refl)) (domains_words state path)
       ∙ none_after (domain_word path)
 
-  no_removal : {W : Type 0} (word : Action → Option W) → ((e : List ℕ × ℤ) → word (removal e) ≡ None) → last_some word (removals state cut) ≡ None
+  no_removal : {W : Type 0} (word : Action → Option W) → ((e : List ℕ × ℤ) → word (removal e) ≡ None) → last_some word (removals state (is_later cut)) ≡ None
   no_removal word none = last_of_none word removal (later state cut) none
 
-  pub says_all_with : SaysAllElse (all_with state cut files) state files cut
+  pub says_all_with : SaysAllElse (canonical_with state (is_later cut) files) state files cut
   says_all_with = record {
     paths = λ path.
-        two (change_at path) (heads state) (adds files ++ (removals state cut ++ named_actions state)) None (or_else (gone_word path) (live_word path)) (heads_none_at path)
-        (two (change_at path) (adds files) (removals state cut ++ named_actions state) (live_word path) (gone_word path) (adds_words state kept files all path)
-        (two (change_at path) (removals state cut) (named_actions state) (gone_word path) None (removals_words state cut path) (named_none_at path)))
-        ∙ none_after (or_else (gone_word path) (live_word path));
+        two (change_at path) (heads state) (adds files ++ (removals state (is_later cut) ++ named_actions state)) None (option_or (gone_word path) (live_word path)) (heads_none_at path)
+        (two (change_at path) (adds files) (removals state (is_later cut) ++ named_actions state) (live_word path) (gone_word path) (adds_words state kept files all path)
+        (two (change_at path) (removals state (is_later cut)) (named_actions state) (gone_word path) None (removals_words state cut path) (named_none_at path)))
+        ∙ none_after (option_or (gone_word path) (live_word path));
     protocol =
-        two protocol_in (heads state) (adds files ++ (removals state cut ++ named_actions state)) state.protocol None (heads_protocol state.protocol state.metadata)
-        (two protocol_in (adds files) (removals state cut ++ named_actions state) None None says_files.protocol
-        (two protocol_in (removals state cut) (named_actions state) None None (no_removal protocol_in (λ e. refl)) (named_silent protocol_in (λ e. refl) (λ e. refl) state)));
+        two protocol_in (heads state) (adds files ++ (removals state (is_later cut) ++ named_actions state)) state.protocol None (heads_protocol state.protocol state.metadata)
+        (two protocol_in (adds files) (removals state (is_later cut) ++ named_actions state) None None says_files.protocol
+        (two protocol_in (removals state (is_later cut)) (named_actions state) None None (no_removal protocol_in (λ e. refl)) (named_silent protocol_in (λ e. refl) (λ e. refl) state)));
     metadata =
-        two metadata_in (heads state) (adds files ++ (removals state cut ++ named_actions state)) state.metadata None (heads_metadata state.protocol state.metadata)
-        (two metadata_in (adds files) (removals state cut ++ named_actions state) None None says_files.metadata
-        (two metadata_in (removals state cut) (named_actions state) None None (no_removal metadata_in (λ e. refl)) (named_silent metadata_in (λ e. refl) (λ e. refl) state)));
+        two metadata_in (heads state) (adds files ++ (removals state (is_later cut) ++ named_actions state)) state.metadata None (heads_metadata state.protocol state.metadata)
+        (two metadata_in (adds files) (removals state (is_later cut) ++ named_actions state) None None says_files.metadata
+        (two metadata_in (removals state (is_later cut)) (named_actions state) None None (no_removal metadata_in (λ e. refl)) (named_silent metadata_in (λ e. refl) (λ e. refl) state)));
     applications = λ path.
-        two (application_at path) (heads state) (adds files ++ (removals state cut ++ named_actions state)) None (get state.applications path)
+        two (application_at path) (heads state) (adds files ++ (removals state (is_later cut) ++ named_actions state)) None (get state.applications path)
         (heads_silent (application_at path) (λ p. refl) (λ m. refl) state)
-        (two (application_at path) (adds files) (removals state cut ++ named_actions state) None (get state.applications path) (says_files.applications path)
-        (two (application_at path) (removals state cut) (named_actions state) None (get state.applications path) (no_removal (application_at path) (λ e. refl)) (named_applications path)
+        (two (application_at path) (adds files) (removals state (is_later cut) ++ named_actions state) None (get state.applications path) (says_files.applications path)
+        (two (application_at path) (removals state (is_later cut)) (named_actions state) None (get state.applications path) (no_removal (application_at path) (λ e. refl)) (named_applications path)
         ∙ none_after (get state.applications path))
         ∙ none_after (get state.applications path))
         ∙ none_after (get state.applications path);
     domains = λ path.
-        two (domain_at path) (heads state) (adds files ++ (removals state cut ++ named_actions state)) None (domain_word path)
+        two (domain_at path) (heads state) (adds files ++ (removals state (is_later cut) ++ named_actions state)) None (domain_word path)
         (heads_silent (domain_at path) (λ p. refl) (λ m. refl) state)
-        (two (domain_at path) (adds files) (removals state cut ++ named_actions state) None (domain_word path) (says_files.domains path)
-        (two (domain_at path) (removals state cut) (named_actions state) None (domain_word path) (no_removal (domain_at path) (λ e. refl)) (named_domains path)
+        (two (domain_at path) (adds files) (removals state (is_later cut) ++ named_actions state) None (domain_word path) (says_files.domains path)
+        (two (domain_at path) (removals state (is_later cut)) (named_actions state) None (domain_word path) (no_removal (domain_at path) (λ e. refl)) (named_domains path)
         ∙ none_after (domain_word path))
         ∙ none_after (domain_word path))
         ∙ none_after (domain_word path);
@@ -320,40 +321,40 @@ module _ (state : TableState) (cut : ℤ) (files : List (List ℕ × AddFile)) (
     top_actions = mark version ∷ (heads state ++ (named_actions state ++ refs))
 
     marked : {W : Type 0} (word : Action → Option W) (h : Option W) → word (mark version) ≡ None → last_some word (heads state) ≡ h → last_some word (mark version ∷ heads state) ≡ h
-    marked word h none is = ap₂ or_else is none ∙ none_after h
+    marked word h none is = ap₂ option_or is none ∙ none_after h
 
-    pub says_first : SaysAllElse (top_actions ++ (adds files ++ removals state cut)) state files cut
+    pub says_first : SaysAllElse (top_actions ++ (adds files ++ removals state (is_later cut))) state files cut
     says_first = record {
       paths = λ path.
-          two (change_at path) top_actions (adds files ++ removals state cut) None (or_else (gone_word path) (live_word path))
+          two (change_at path) top_actions (adds files ++ removals state (is_later cut)) None (option_or (gone_word path) (live_word path))
           (two (change_at path) (mark version ∷ heads state) (named_actions state ++ refs) None None (marked (change_at path) None refl (heads_none_at path))
           (two (change_at path) (named_actions state) refs None None (named_none_at path) (no_reference (change_at path) (λ r. refl))))
-          (two (change_at path) (adds files) (removals state cut) (live_word path) (gone_word path) (adds_words state kept files all path) (removals_words state cut path))
-          ∙ none_after (or_else (gone_word path) (live_word path));
+          (two (change_at path) (adds files) (removals state (is_later cut)) (live_word path) (gone_word path) (adds_words state kept files all path) (removals_words state cut path))
+          ∙ none_after (option_or (gone_word path) (live_word path));
       protocol =
-          two protocol_in top_actions (adds files ++ removals state cut) state.protocol None
+          two protocol_in top_actions (adds files ++ removals state (is_later cut)) state.protocol None
           (two protocol_in (mark version ∷ heads state) (named_actions state ++ refs) state.protocol None
           (marked protocol_in state.protocol refl (heads_protocol state.protocol state.metadata))
           (two protocol_in (named_actions state) refs None None (named_silent protocol_in (λ e. refl) (λ e. refl) state) (no_reference protocol_in (λ r. refl))))
-          (two protocol_in (adds files) (removals state cut) None None says_files.protocol (no_removal protocol_in (λ e. refl)));
+          (two protocol_in (adds files) (removals state (is_later cut)) None None says_files.protocol (no_removal protocol_in (λ e. refl)));
       metadata =
-          two metadata_in top_actions (adds files ++ removals state cut) state.metadata None
+          two metadata_in top_actions (adds files ++ removals state (is_later cut)) state.metadata None
           (two metadata_in (mark version ∷ heads state) (named_actions state ++ refs) state.metadata None
           (marked metadata_in state.metadata refl (heads_metadata state.protocol state.metadata))
           (two metadata_in (named_actions state) refs None None (named_silent metadata_in (λ e. refl) (λ e. refl) state) (no_reference metadata_in (λ r. refl))))
-          (two metadata_in (adds files) (removals state cut) None None says_files.metadata (no_removal metadata_in (λ e. refl)));
+          (two metadata_in (adds files) (removals state (is_later cut)) None None says_files.metadata (no_removal metadata_in (λ e. refl)));
       applications = λ path.
-          two (application_at path) top_actions (adds files ++ removals state cut) (get state.applications path) None
+          two (application_at path) top_actions (adds files ++ removals state (is_later cut)) (get state.applications path) None
           (two (application_at path) (mark version ∷ heads state) (named_actions state ++ refs) None (get state.applications path)
           (marked (application_at path) None refl (heads_silent (application_at path) (λ p. refl) (λ m. refl) state))
           (two (application_at path) (named_actions state) refs (get state.applications path) None (named_applications path) (no_reference (application_at path) (λ r. refl)))
           ∙ none_after (get state.applications path))
-          (two (application_at path) (adds files) (removals state cut) None None (says_files.applications path) (no_removal (application_at path) (λ e. refl)));
+          (two (application_at path) (adds files) (removals state (is_later cut)) None None (says_files.applications path) (no_removal (application_at path) (λ e. refl)));
       domains = λ path.
-          two (domain_at path) top_actions (adds files ++ removals state cut) (domain_word path) None
+          two (domain_at path) top_actions (adds files ++ removals state (is_later cut)) (domain_word path) None
           (two (domain_at path) (mark version ∷ heads state) (named_actions state ++ refs) None (domain_word path)
           (marked (domain_at path) None refl (heads_silent (domain_at path) (λ p. refl) (λ m. refl) state))
           (two (domain_at path) (named_actions state) refs (domain_word path) None (named_domains path) (no_reference (domain_at path) (λ r. refl)))
           ∙ none_after (domain_word path))
-          (two (domain_at path) (adds files) (removals state cut) None None (says_files.domains path) (no_removal (domain_at path) (λ e. refl)));
+          (two (domain_at path) (adds files) (removals state (is_later cut)) None None (says_files.domains path) (no_removal (domain_at path) (λ e. refl)));
     }

@@ -58,7 +58,7 @@ abbrev pub broken_after : List RatifiedCommit → List Action → Option ℕ
 broken_after h actions = first_broken (state_of h) (last_timestamp (commits_of h)) (length (commits_of h)) actions
 
 -- a commit that is valid after this history
-pub adds : (events : List Told) (h : List RatifiedCommit) (version : ℕ) (bytes : List ℕ) (actions : List Action) → history events ≡ h → version ≡ length h
+unfoldable pub adds : (events : List Told) (h : List RatifiedCommit) (version : ℕ) (bytes : List ℕ) (actions : List Action) → history events ≡ h → version ≡ length h
     → is_managed (state_of h) ≡ false → broken_after h actions ≡ None → commit_of bytes ≡ Some actions → AddsCommit events version bytes
 adds events h version bytes actions is next unmanaged valid means = (
   actions,

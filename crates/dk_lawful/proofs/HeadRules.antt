@@ -10,7 +10,9 @@ use Rattle.dk_model.specs.declared.state.TableState.{TableState}
 use Rattle.dk_model.specs.State.{step, steps}
 use Rattle.dk_features.specs.Names.{domain_metadata}
 use Rattle.dk_features.specs.InForce.{has_feature}
-use Rattle.dk_lawful.specs.Rules.{protocol_in, is_protocol_kept, is_append_only, removes_rows, is_domain, keeps_heads, keeps_kinds, keeps_paths_apart, keeps_names_apart, keeps_times_by, begins_unenabled, stays_managed, keeps_adds}
+use Rattle.dk_model.specs.Changes.{protocol_in}
+use Rattle.dk_model.specs.Rows.{removes_rows}
+use Rattle.dk_lawful.specs.Rules.{is_protocol_kept, is_append_only, is_domain, keeps_heads, keeps_kinds, keeps_paths_apart, keeps_names_apart, keeps_times_by, begins_unenabled, stays_managed, keeps_adds}
 use Rattle.dk_lawful.specs.Written.{is_written}
 use Rattle.dk_lawful.specs.Timestamps.{has_timestamps, said_first}
 use Rattle.dk_lawful.specs.Laws.{RulesByHeads, AgreeingHaveSameRules}

@@ -8,7 +8,8 @@ use Rattle.dk_model.specs.declared.action.Action.TheVariants as action
 use Rattle.dk_model.specs.declared.state.TableState.{TableState}
 use Rattle.dk_model.specs.State.{step, steps, steps_of_all, fold, empty_state}
 use Rattle.dk_lawful.specs.History.{RatifiedCommit, commits_of, state_of, HasHeads}
-use Rattle.dk_lawful.specs.Rules.{protocol_in, metadata_in, keeps_heads, IsValidNext}
+use Rattle.dk_model.specs.Changes.{protocol_in, metadata_in}
+use Rattle.dk_lawful.specs.Rules.{keeps_heads, IsValidNext}
 use Rattle.dk_lawful.specs.Timestamps.{last_timestamp}
 use Rattle.dk_lawful.proofs.Management.{kept}
 use Rattle.dk_lawful.proofs.Sound.{length_commits}

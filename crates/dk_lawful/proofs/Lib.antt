@@ -1,3 +1,4 @@
+pub mod ActorExample
 pub mod BrokenRules
 pub mod Calls
 pub mod CheckpointExample
@@ -11,7 +12,9 @@ pub mod HeadRules
 pub mod Heads
 pub mod IdsOnce
 pub mod Joined
+pub mod Joining
 pub mod Lists
+pub mod ManagedExample
 pub mod Management
 pub mod MayBeMade
 pub mod MoreExamples
@@ -22,6 +25,7 @@ pub mod Openable
 pub mod Puts
 pub mod ReadLog
 pub mod RowExample
+pub mod SamePlaces
 pub mod SegmentSteps
 pub mod SegmentsAgree
 pub mod SoFar

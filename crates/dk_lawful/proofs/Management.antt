@@ -11,7 +11,8 @@ use Rattle.dk_features.specs.Names.{catalog_managed}
 use Rattle.dk_features.specs.InForce.{has_feature}
 use Rattle.dk_features.specs.Forms.{has_form, keeps_features}
 use Rattle.dk_features.proofs.StayInForce.{stays}
-use Rattle.dk_lawful.specs.Rules.{protocol_in, is_not_lower, may_follow, is_protocol_kept, keeps_heads, keeps_kinds, keeps_paths_apart, keeps_names_apart, keeps_protocol, keeps_writer, KeepsRules}
+use Rattle.dk_model.specs.Changes.{protocol_in}
+use Rattle.dk_lawful.specs.Rules.{is_not_lower, may_follow, is_protocol_kept, keeps_heads, keeps_kinds, keeps_paths_apart, keeps_names_apart, keeps_protocol, keeps_writer, KeepsRules}
 use Rattle.dk_lawful.specs.Laws.{FeaturesStay, ManagementStays}
 
 -- the tests in a row that no rule broken passes

@@ -12,7 +12,8 @@ use Rattle.dk_lawful.specs.Present.{Present}
 use Rattle.dk_lawful.specs.History.{table_at}
 use Rattle.dk_lawful.specs.Agree.{Stands}
 use Rattle.dk_lawful.specs.Checkpoints.{sidecars_of, Top, TopMeans, SidesMean, Among}
-use Rattle.dk_lawful.specs.Contents.{has_v2, mark, named_actions, all_with, classic_content, v2_content}
+use Rattle.dk_model.specs.Contents.{named_actions, canonical_with, is_later}
+use Rattle.dk_lawful.specs.Contents.{has_v2, mark, classic_content, v2_content}
 use Rattle.dk_lawful.specs.Shares.{files_of}
 use Rattle.dk_lawful.specs.Permits.{MakesTop}
 use Rattle.dk_lawful.specs.ContentLaws.{sidecars_content, WrittenOf, PartMayBeMade, ClassicMayBeMade, V2MayBeMade}
@@ -56,7 +57,7 @@ makes_top one events horizon place version state cut bytes top sides written mea
 classic_quiet : (state : TableState) (version : ℕ) (cut : ℤ) → sidecars_of (classic_content state version cut) ≡ Some []
 classic_quiet state version cut = by (has_v2 state)
   where
-    by : (marks : Bool) → sidecars_of ((if marks then mark version ∷ [] else []) ++ all_with state cut (files_of state)) ≡ Some []
+    by : (marks : Bool) → sidecars_of ((if marks then mark version ∷ [] else []) ++ canonical_with state (is_later cut) (files_of state)) ≡ Some []
     by true = all_quiet state cut (files_of state)
     by false = all_quiet state cut (files_of state)
 

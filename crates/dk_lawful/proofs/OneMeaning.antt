@@ -15,7 +15,7 @@ pub one_value : {A : Type 0} (found : Option A) (x y : A) → found ≡ Some x �
 one_value found x y is is_other = let both : Some x ≡ Some y = sym is ∙ is_other in cc
 
 module _ (one : MeansOneList) where
-  actions_in_parquet : (bytes : List ℕ) (actions others : List Action) → InParquet bytes actions → InParquet bytes others → actions ≡ others
+  pub actions_in_parquet : (bytes : List ℕ) (actions others : List Action) → InParquet bytes actions → InParquet bytes others → actions ≡ others
   actions_in_parquet bytes actions others means means_other =
       let rows : means.rows ≡ means_other.rows = one read_fields bytes means.rows means_other.rows means.means means_other.means in
       one_value (actions_of_rows means_other.rows) actions others (ap actions_of_rows (sym rows) ∙ means.read) means_other.read

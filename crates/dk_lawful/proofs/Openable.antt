@@ -3,26 +3,23 @@ use Rattle.std.proofs.Common.{◌≡◌, ℕ, zero, suc, ℤ, ◌+◌, ◌<◌, 
 use Rattle.std.specs.Prelude.{◌==◌, is_some, nat_lt, filter}
 use Rattle.std.specs.List.{cons_option}
 use Rattle.std.specs.Option.{option_or}
-use Rattle.std.proofs.lemmas.Bool.{and_parts, eqb-true, eq-eqb, leb-true, le-leb, cases_lt, ltb-false, ltb-true}
+use Rattle.std.proofs.lemmas.Bool.{and_parts, eqb-true, eq-eqb, le-leb, cases_lt, ltb-false, ltb-true}
 use Rattle.dk_store.specs.Told.{Told, Made, Over, Deleted, Ratified, Forgotten}
 use Rattle.dk_store.specs.Standings.{standing}
 use Rattle.dk_paths.specs.Names.{commit_path}
 use Rattle.dk_paths.specs.Places.{Place, Commit_at, Classic, Part, V2, Compacted, Hint, Sidecar, Staged, Other, IsPlace, place_of, place_path}
 use Rattle.dk_pqmodel.specs.FileMeans.{MeansOneList}
 use Rattle.dk_lawful.specs.declared.segment.Checkpoints.{Checkpoints}
-use Rattle.dk_lawful.specs.declared.segment.Checkpoints.TheVariants.{No, Newest, AtMost}
-use Rattle.dk_lawful.specs.declared.segment.Choice.{Choice}
+use Rattle.dk_lawful.specs.declared.segment.Checkpoints.TheVariants.{No, Newest}
 use Rattle.dk_lawful.specs.declared.segment.Segment.{Segment}
 use Rattle.dk_lawful.specs.declared.segment.Step.{Step}
-use Rattle.dk_lawful.specs.declared.segment.Step.TheVariants as step_kinds
 use Rattle.dk_lawful.specs.declared.segment.Step.TheVariants.{Commit}
-use Rattle.dk_lawful.specs.Present.{Holds, Present, Available, Complete}
-use Rattle.dk_lawful.specs.History.{next_version}
+use Rattle.dk_lawful.specs.Present.{Available, Complete}
 use Rattle.dk_lawful.specs.Lawful.{Lawful}
-use Rattle.dk_lawful.specs.Floor.{HasBetween, IsBelow, FromFloor}
-use Rattle.dk_lawful.specs.Checkpoints.{Top, TopMeans, Among, Checkpoint, in_one, in_parts}
-use Rattle.dk_lawful.specs.Segments.{is_among, commit_place, before_later, steps_from, gap_from, greater, greatest, lesser, least, has_parts, complete_at, is_allowed, base_version, parts_at, id_at, by_id, by_parts, checkpoint_at, base_of, reached_by, furthest, compacted_step, commit_step, step_at, after_step, before_next, walked_to, or_next, gap_to, version_of, begins_at, steps_of, segment_after, segment_of, first_gap, commit_segment, commit_gap}
-use Rattle.dk_lawful.specs.Openable.{standing_places, IsNamedBy, HasSidecars, IsKept, EachFromFloorIsKept, PlainIsByCommits, GoesBelow, CleansBelow, CleanupLeavesFloor, IsNeedless, TakesNothing, TakeNothing, OthersLeaveFloor}
+use Rattle.dk_lawful.specs.Floor.{IsBelow}
+use Rattle.dk_lawful.specs.Checkpoints.{Top, Among, Checkpoint, in_one, in_parts}
+use Rattle.dk_lawful.specs.Segments.{is_among, commit_place, before_later, steps_from, gap_from, greater, greatest, lesser, least, has_parts, complete_at, is_allowed, parts_at, id_at, by_parts, checkpoint_at, base_of, reached_by, furthest, compacted_step, commit_step, step_at, after_step, before_next, walked_to, or_next, gap_to, version_of, begins_at, steps_of, segment_after}
+use Rattle.dk_lawful.specs.Openable.{standing_places, HasSidecars, EachFromFloorIsKept, PlainIsByCommits, GoesBelow, CleansBelow, CleanupLeavesFloor, IsNeedless, OthersLeaveFloor}
 use Rattle.dk_lawful.proofs.CommitsThere.{available_there}
 use Rattle.dk_lawful.proofs.OneMeaning.{top_means}
 use Rattle.dk_lawful.proofs.SoundDeleted.{IsApart, Complete_deleted}
@@ -45,12 +42,12 @@ of_cons None ys y at = inr at
 of_cons (Some z) ys y (inl same) = inl (ap Some (sym same))
 of_cons (Some z) ys y (inr at) = inr at
 
-in_filter_map : {X Y : Type 0} (f : X → Option Y) (xs : List X) (x : X) (y : Y) → In xs x → f x ≡ Some y → In (filter_map f xs) y
+pub in_filter_map : {X Y : Type 0} (f : X → Option Y) (xs : List X) (x : X) (y : Y) → In xs x → f x ≡ Some y → In (filter_map f xs) y
 in_filter_map f [] x y at is = absurd at
 in_filter_map f (z ∷ xs) x y (inl same) is = at_cons (f z) (filter_map f xs) y (ap f (sym same) ∙ is)
 in_filter_map f (z ∷ xs) x y (inr at) is = in_cons (f z) (filter_map f xs) y (in_filter_map f xs x y at is)
 
-of_filter_map : {X Y : Type 0} (f : X → Option Y) (xs : List X) (y : Y) → In (filter_map f xs) y → (x : X) × In xs x × (f x ≡ Some y)
+pub of_filter_map : {X Y : Type 0} (f : X → Option Y) (xs : List X) (y : Y) → In (filter_map f xs) y → (x : X) × In xs x × (f x ≡ Some y)
 of_filter_map f [] y at = absurd at
 of_filter_map f (z ∷ xs) y at = by (of_cons (f z) (filter_map f xs) y at) (of_filter_map f xs y)
   where

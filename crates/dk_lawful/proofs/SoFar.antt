@@ -1,6 +1,6 @@
 -- What the law reads and writes beyond what is built awaits one of two features, and the rules that are built are the law's where it awaits
 -- none.
-use Rattle.std.proofs.Common.{◌≡◌, ℕ, ℤ, ◌+◌, ◌<◌, ◌≤◌, Bool, true, false, not, ◌&&◌, List, [], ◌∷◌, ◌++◌, Option, Some, None, option_map, if◌then◌else◌, refl, sym, ap, ap₂, ◌∙◌, arith, true≢false}
+use Rattle.std.proofs.Common.{◌≡◌, ℕ, ℤ, ◌+◌, ◌≤◌, Bool, true, false, not, ◌&&◌, List, [], ◌∷◌, ◌++◌, Option, Some, None, option_map, if◌then◌else◌, refl, sym, ap, ap₂, ◌∙◌, arith, true≢false}
 use Rattle.std.specs.Prelude.{codes, ◌||◌, ◌==◌, is_none, nat_le, nat_lt, find, get_or}
 use Rattle.std.specs.List.{list_all, position_from}
 use Rattle.std.specs.Option.{option_or}
@@ -16,14 +16,15 @@ use Rattle.dk_model.specs.Settings.{setting}
 use Rattle.dk_features.specs.declared.fault.FeatureFault.{FeatureFault}
 use Rattle.dk_features.specs.declared.fault.FeatureFault.TheVariants as faults
 use Rattle.dk_features.specs.declared.fault.FeatureList.TheVariants as lists
-use Rattle.dk_features.specs.Names.{catalog_managed, is_one_of}
-use Rattle.dk_features.specs.InForce.{implied, is_implied, is_implied_name, is_in_force, is_mapped, has_feature, listed}
+use Rattle.dk_model.specs.NameSets.{is_one_of}
+use Rattle.dk_features.specs.Names.{catalog_managed}
+use Rattle.dk_features.specs.InForce.{implied, is_implied, is_implied_name, is_mapped, has_feature, listed}
 use Rattle.dk_features.specs.Invariants.{uses_invariants}
 use Rattle.dk_features.specs.Support as built
 use Rattle.dk_lawful.specs.Written.{in_commit_timestamp, of_commits, is_read, is_written_with, is_read_by, stays_written, is_written_by, is_written}
 use Rattle.dk_lawful.specs.Timestamps.{is_set, has_timestamps}
-use Rattle.dk_lawful.specs.Rules.{keeps_heads, keeps_kinds, keeps_paths_apart, keeps_names_apart, keeps_protocol, keeps_writer, keeps_rows, keeps_domains, keeps_times, begins_unenabled, keeps_management, keeps_adds, first_broken}
-use Rattle.dk_lawful.specs.SoFar.{asked_names, awaited, is_written_so_far, first_broken_so_far, HasNeither, WrittenHasNeither, RulesSoFar, ReadSoFar}
+use Rattle.dk_lawful.specs.Rules.{keeps_heads, keeps_kinds, keeps_paths_apart, keeps_names_apart, keeps_protocol, keeps_rows, keeps_domains, keeps_times, begins_unenabled, keeps_management, keeps_adds}
+use Rattle.dk_lawful.specs.SoFar.{awaited, is_written_so_far, HasNeither, WrittenHasNeither, RulesSoFar, ReadSoFar}
 
 -- ---- tests that find nothing
 

@@ -1,5 +1,5 @@
 -- What others do leaves those who are at work fit.
-use Rattle.std.proofs.Common.{◌≡◌, ℕ, ◌+◌, ◌*◌, ◌/◌, ◌^◌, ◌<◌, ◌≤◌, inl, inr, length, take, List, [], ◌∷◌, ◌++◌, Option, Some, None, sym, ap, subst, ◌∙◌, arith, length-append}
+use Rattle.std.proofs.Common.{◌≡◌, ℕ, ◌+◌, ◌*◌, ◌/◌, ◌^◌, ◌<◌, ◌≤◌, zero, suc, ◌⊎◌, inl, inr, length, take, slice_get, refl, List, [], ◌∷◌, ◌++◌, Option, Some, None, sym, ap, subst, ◌∙◌, arith, length-append}
 use Rattle.std.specs.Prelude.{Contains}
 use Rattle.std.proofs.lemmas.Bool.{cases_lt}
 use Rattle.std.proofs.lemmas.Int.{ints}
@@ -13,7 +13,7 @@ use Rattle.dk_lawful.specs.Present.{Holds}
 use Rattle.dk_lawful.specs.History.{RatifiedCommit, history, next_version, commits_of}
 use Rattle.dk_lawful.specs.Rules.{IsValidNext}
 use Rattle.dk_lawful.specs.Agree.{Agree}
-use Rattle.dk_lawful.specs.Actors.{OwnStaged, Transaction, commit_by, OwnFits, drawn, Writes, LeaveUnwritten, TransactionsStayFit, JobsStayFit, OthersStayFit, GreaterHorizonFits, NobodyFits, BegunFits, PutStaysFit}
+use Rattle.dk_lawful.specs.Actors.{OwnStaged, Transaction, commit_by, OwnFits, drawn, Writes, LeaveUnwritten, TransactionsStayFit, JobsStayFit, OthersStayFit, GreaterHorizonFits, NobodyFits, BegunFits, PutStaysFit, Snapshot, TransactionFits, Actors, IsDrawn, HasDrawn, begun, with_begun, AllFitWithBegun}
 use Rattle.dk_lawful.proofs.IdsOnce.{ids_stand_once, ids_stay, ids_are_no_more}
 use Rattle.dk_lawful.proofs.Sound.{length_commits, published_within}
 use Rattle.dk_lawful.proofs.SoundOthers.{lawful_is_sound}
@@ -166,3 +166,52 @@ pub drawn_apart : (base a b : ℕ) → a < 2 ^ 64 → b < 2 ^ 64 → drawn base 
 drawn_apart base a b small small_other same =
     in_wraps ((base + b) / 2 ^ 128) base a b (drawn base a) ((base + a) / 2 ^ 128) (mod-add-div (base + a) (2 ^ 128))
     (ap (λ n. n + 2 ^ 128 * ((base + b) / 2 ^ 128)) same ∙ mod-add-div (base + b) (2 ^ 128)) small small_other
+
+-- an element of a longer list is the first, or one of the rest
+of_first : {A : Type 0} (x y : A) (xs : List A) → Contains (x ∷ xs) y → (y ≡ x) ⊎ Contains xs y
+of_first x y xs (zero, within, is) = inl (sym is)
+of_first x y xs (suc k, within, is) = inr (k, (omega arith), is)
+
+at_is_among : {A : Type 0} (xs : List A) (i : ℕ) (x : A) → slice_get xs i ≡ Some x → Contains xs x
+at_is_among [] i x is = absurd (let no : ◌≡◌ {A = Option _} None (Some x) = is in cc)
+at_is_among (y ∷ xs) zero x is = (0, (omega arith), (let same : y ≡ x = cc in same))
+at_is_among (y ∷ xs) (suc i) x is = let (k, within, at) = at_is_among xs i x is in (suc k, (omega arith), at)
+
+drawn_on : (actors : Actors) (snapshot : Option Snapshot) (id : ℕ) → IsDrawn actors id → IsDrawn (with_begun actors snapshot) id
+drawn_on actors snapshot id (count, below, is) = (count, (omega arith), is)
+
+pub all_fit_with_begun : AllFitWithBegun
+all_fit_with_begun events horizon actors snapshot small opened fits = record {
+  transactions = λ t among. elim (of_first new t actors.transactions among) [
+    | inl same ↦ subst (TransactionFits events horizon) (sym same) (begun_fits events horizon (drawn actors.base actors.count) snapshot opened (fits.unused actors.count (omega arith) small))
+    | inr before ↦ fits.transactions t before
+  ];
+  jobs = fits.jobs;
+  ids = λ t among. elim (of_first new t actors.transactions among) [
+    | inl same ↦ subst (HasDrawn (with_begun actors snapshot)) (sym same) (record { id = (actors.count, (omega arith), refl); staged = λ own is. absurd (let no : ◌≡◌ {A = Option OwnStaged} None (Some own) = is in cc) })
+    | inr before ↦ let had = fits.ids t before in record { id = drawn_on actors snapshot t.id had.id; staged = λ own is. drawn_on actors snapshot own.uuid (had.staged own is) }
+  ];
+  sidecar_ids = λ job among before name is. let (id, was, named) = fits.sidecar_ids job among before name is in (id, drawn_on actors snapshot id was, named);
+  apart = apart;
+  once = fits.once;
+  unused = λ count least below. fits.unused count (omega arith) below;
+}
+  where
+    new : Transaction
+    new = begun (drawn actors.base actors.count) snapshot
+
+    -- the id that was drawn last is none of those drawn before
+    differs : (place : ℕ) (u : Transaction) → slice_get actors.transactions place ≡ Some u → drawn actors.base actors.count ≡ u.id → ⊥
+    differs place u is same =
+        let (count, below, drawn_as) = (fits.ids u (at_is_among actors.transactions place u is)).id in
+        let counts : actors.count ≡ count = drawn_apart actors.base actors.count count small (omega arith) (same ∙ drawn_as) in
+        omega arith
+
+    apart : (place other : ℕ) (t u : Transaction) → slice_get (begun (drawn actors.base actors.count) snapshot ∷ actors.transactions) place ≡ Some t
+        → slice_get (begun (drawn actors.base actors.count) snapshot ∷ actors.transactions) other ≡ Some u → t.id ≡ u.id → place ≡ other
+    apart zero zero t u is is_other same = refl
+    apart zero (suc other) t u is is_other same =
+        let first : begun (drawn actors.base actors.count) snapshot ≡ t = cc in absurd (differs other u is_other (ap (λ (x : Transaction). x.id) first ∙ same))
+    apart (suc place) zero t u is is_other same =
+        let first : begun (drawn actors.base actors.count) snapshot ≡ u = cc in absurd (differs place t is (ap (λ (x : Transaction). x.id) first ∙ sym same))
+    apart (suc place) (suc other) t u is is_other same = ap suc (fits.apart place other t u is is_other same)

@@ -1,9 +1,9 @@
 -- What a transaction commits where the table's commits don't say their times.
-use Rattle.std.proofs.Common.{◌≡◌, ℕ, zero, suc, ℤ, Bool, true, false, not, ◌&&◌, map, length, List, [], ◌∷◌, Option, Some, None, if◌then◌else◌, refl, sym, ap, ap₂, ◌∙◌}
+use Rattle.std.proofs.Common.{◌≡◌, ℕ, zero, suc, Bool, true, false, not, ◌&&◌, map, length, List, ◌∷◌, Some, None, if◌then◌else◌, refl, ap, ap₂, ◌∙◌}
 use Rattle.dk_model.specs.declared.action.Action.{Action}
 use Rattle.dk_model.specs.declared.state.TableState.{TableState}
 use Rattle.dk_model.specs.State.{steps, fold}
-use Rattle.dk_lawful.specs.Transacted.{with_enablement, says_times, time_at, begins_times, own_line, put_at, TransactedPlainly}
+use Rattle.dk_lawful.specs.Transacted.{with_enablement, says_times, time_at, begins_times, own_line, TransactedPlainly}
 
 and_false : (b : Bool) → (b && false) ≡ false
 and_false true = refl

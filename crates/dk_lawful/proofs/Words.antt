@@ -1,5 +1,6 @@
 -- The last words of the actions that are written of a state.
 use Rattle.std.proofs.Common.{◌≡◌, ℕ, zero, suc, Bool, true, false, cond, ◌&&◌, List, [], ◌∷◌, ◌++◌, map, filter, take, drop, Option, Some, None, option_map, if◌then◌else◌, refl, sym, ap, subst, ◌∙◌}
+use Rattle.std.specs.Option.{option_or}
 use Rattle.std.specs.Prelude.{is_some, T}
 use Rattle.std.specs.List.{AllByRecursion}
 use Rattle.std.specs.Ordering.{nat_cmp, is_lt, is_eq, ordering_reverse}
@@ -11,7 +12,7 @@ use Rattle.std.specs.FinMap.Entries.{below_all}
 use Rattle.std.proofs.lemmas.Cmp.{nat_list_cmp_total}
 use Rattle.dk_model.specs.declared.action.Action.{Action}
 use Rattle.dk_model.specs.Texts.{ByText}
-use Rattle.dk_model.specs.Changes.{or_else, is_same_text, last_some}
+use Rattle.dk_model.specs.Changes.{is_same_text, last_some}
 use Rattle.dk_model.proofs.TextMaps.{text_order}
 
 -- ---- each entry of a map is what the map has at its key
@@ -115,21 +116,21 @@ module _ {X : Type 0} where
 
 -- ---- last words
 
-pub none_after : {A : Type 0} (found : Option A) → or_else found None ≡ found
+pub none_after : {A : Type 0} (found : Option A) → option_or found None ≡ found
 none_after None = refl
 none_after (Some x) = refl
 
-or_else_thrice : {A : Type 0} (x y z : Option A) → or_else x (or_else y z) ≡ or_else (or_else x y) z
-or_else_thrice None y z = refl
-or_else_thrice (Some x) y z = refl
+or_thrice : {A : Type 0} (x y z : Option A) → option_or x (option_or y z) ≡ option_or (option_or x y) z
+or_thrice None y z = refl
+or_thrice (Some x) y z = refl
 
-pub last_of_both : {A W : Type 0} (word : A → Option W) (xs ys : List A) → last_some word (xs ++ ys) ≡ or_else (last_some word ys) (last_some word xs)
+pub last_of_both : {A W : Type 0} (word : A → Option W) (xs ys : List A) → last_some word (xs ++ ys) ≡ option_or (last_some word ys) (last_some word xs)
 last_of_both word [] ys = sym (none_after (last_some word ys))
-last_of_both word (x ∷ xs) ys = ap (λ o. or_else o (word x)) (last_of_both word xs ys) ∙ sym (or_else_thrice (last_some word ys) (last_some word xs) (word x))
+last_of_both word (x ∷ xs) ys = ap (λ o. option_or o (word x)) (last_of_both word xs ys) ∙ sym (or_thrice (last_some word ys) (last_some word xs) (word x))
 
 pub last_of_none : {E A W : Type 0} (word : A → Option W) (act : E → A) (es : List E) → ((e : E) → word (act e) ≡ None) → last_some word (map act es) ≡ None
 last_of_none word act [] none = refl
-last_of_none word act (e ∷ es) none = ap (λ o. or_else o (word (act e))) (last_of_none word act es none) ∙ none e
+last_of_none word act (e ∷ es) none = ap (λ o. option_or o (word (act e))) (last_of_none word act es none) ∙ none e
 
 module _ {X W : Type 0} (word : Action → Option W) (path : List ℕ) (act : List ℕ × X → Action) (value : X → W) (m : ByText X) where
   -- the word on a path that an entry has, where it is of that path
@@ -137,10 +138,10 @@ module _ {X W : Type 0} (word : Action → Option W) (path : List ℕ) (act : Li
   Speak es = AllByRecursion (λ e. word (act e) ≡ (if is_same_text path e.0 then Some (value e.1) else None)) es
 
   last_step : (same : Bool) (x : X) (found got : Option X) → (same ≡ true → got ≡ Some x)
-      → or_else (if is_some found then option_map value got else None) (if same then Some (value x) else None)
+      → option_or (if is_some found then option_map value got else None) (if same then Some (value x) else None)
       ≡ (if is_some (cond same (Some x) found) then option_map value got else None)
   last_step true x None got is = ap (option_map value) (sym (is refl))
-  last_step true x (Some y) got is = ap (λ o. or_else (option_map value o) (Some (value x))) (is refl) ∙ ap (option_map value) (sym (is refl))
+  last_step true x (Some y) got is = ap (λ o. option_or (option_map value o) (Some (value x))) (is refl) ∙ ap (option_map value) (sym (is refl))
   last_step false x found got is = none_after (if is_some found then option_map value got else None)
 
   tied_key : (e : List ℕ × X) → get m e.0 ≡ Some e.1 → is_same_text path e.0 ≡ true → get m path ≡ Some e.1
@@ -156,6 +157,6 @@ module _ {X W : Type 0} (word : Action → Option W) (path : List ℕ) (act : Li
       → last_some word (map act es) ≡ (if is_some (find (slice_cmp nat_cmp) path es) then option_map value (get m path) else None)
   last_of_entries [] all speak = refl
   last_of_entries (e ∷ es) all speak =
-      ap (λ o. or_else o (word (act e))) (last_of_entries es all.1 speak.1)
-      ∙ ap (or_else (if is_some (find (slice_cmp nat_cmp) path es) then option_map value (get m path) else None)) speak.0
+      ap (λ o. option_or o (word (act e))) (last_of_entries es all.1 speak.1)
+      ∙ ap (option_or (if is_some (find (slice_cmp nat_cmp) path es) then option_map value (get m path) else None)) speak.0
       ∙ last_step (is_same_text path e.0) e.1 (find (slice_cmp nat_cmp) path es) (get m path) (tied_key e all.0)

@@ -5,6 +5,7 @@ use Rattle.dk_model.specs.declared.action.Action.TheVariants as action
 use Rattle.dk_store.specs.Told.{Told, Made, Deleted}
 use Rattle.dk_paths.specs.Names.{commit_path}
 use Rattle.dk_paths.specs.Places.{V2, Compacted, Sidecar, place_path}
+use Rattle.dk_lawful.specs.Floor.{FromFloor}
 use Rattle.dk_lawful.specs.Contents.{mark}
 use Rattle.dk_lawful.specs.Example.{first_text, first_actions, second_text, second_actions, example}
 use Rattle.dk_lawful.specs.MoreExamples.{compacting, side_name}
@@ -59,3 +60,7 @@ clearing events = Deleted (place_path (V2 0 6 true)) ∷ Deleted (place_path (Co
 -- a checkpoint that names a sidecar which stands
 abbrev pub naming : List Told
 naming = Made (place_path (V2 1 7 true)) naming_text (pos 4) ∷ Made (place_path (Sidecar side_name)) (codes "s") (pos 3) ∷ example
+
+-- after this the floor is 1: version 0 needs a commit that went, and version 1 has its checkpoint
+abbrev pub ClearedFloor : Type 0
+ClearedFloor = (FromFloor (clearing example) 0 → ⊥) × FromFloor (clearing example) 1

@@ -1,10 +1,10 @@
 -- The history that a list of events means: the ratified commits, oldest first, each with the way by which it came
 -- (Delta Lake's PROTOCOL.md, "Delta Log Entries", "Catalog-managed tables").
-use Rattle.std.specs.Prelude.{ℕ, Bool, not, ◌==◌, ◌&&◌, List, [], ◌∷◌, ◌++◌, Option, Some, None, IsSome, map, length, take, ◌+◌, option_and_then, if◌then◌else◌}
+use Rattle.std.specs.Prelude.{ℕ, suc, Bool, not, ◌==◌, ◌&&◌, List, [], ◌∷◌, ◌++◌, Option, Some, None, IsSome, map, length, take, ◌+◌, option_and_then, if◌then◌else◌}
 use Rattle.dk_model.specs.declared.action.Action.{Action}
 use Rattle.dk_model.specs.declared.state.TableState.{TableState}
 use Rattle.dk_model.specs.CommitText.{commit_of}
-use Rattle.dk_model.specs.State.{fold}
+use Rattle.dk_model.specs.State.{empty_state, steps, fold}
 use Rattle.dk_store.specs.Told.{Told, Made, Over, Deleted, Ratified, Forgotten}
 use Rattle.dk_paths.specs.Places.{Place, Commit_at, place_of}
 use Rattle.dk_lawful.specs.Present.{staged_bytes}
@@ -79,6 +79,14 @@ commits_before events version = take version (commits_of (history events))
 
 abbrev pub table_before : List Told → ℕ → TableState
 table_before events version = fold (commits_before events version)
+
+-- the first version whose state is managed, if there is one: all later versions come by the catalogue
+abbrev pub managed_from : TableState → ℕ → List (List Action) → Option ℕ
+managed_from state version [] = None
+managed_from state version (commit ∷ later) = if is_managed (steps state commit) then Some version else managed_from (steps state commit) (suc version) later
+
+abbrev pub managed_since : List Told → Option ℕ
+managed_since events = managed_from empty_state 0 (commits_of (history events))
 
 -- a state of a table that has begun
 pub record HasHeads (state : TableState) : Type 0 where

@@ -16,14 +16,14 @@ use Rattle.dk_paths.specs.Places.{Place, Commit_at, Sidecar, Staged}
 use Rattle.dk_paths.specs.Staged.{staged_name}
 use Rattle.dk_store.specs.Standings.{standing, next_ratified}
 use Rattle.dk_lawful.specs.Present.{Holds, Present, IsLastPublished, versions_up_to, AtMostPublished, HasStaged, Available, Complete, HasAbove}
-use Rattle.dk_lawful.specs.History.{RatifiedCommit, history, next_version, commits_of, table, table_at, table_before, goes_on_by, HasHeads}
+use Rattle.dk_lawful.specs.History.{RatifiedCommit, history, next_version, commits_of, table, table_at, commits_before, table_before, managed_since, goes_on_by, HasHeads}
 use Rattle.dk_lawful.specs.Agree.{Agree}
 use Rattle.dk_lawful.specs.Permits.{IsNextCommit}
 use Rattle.dk_lawful.specs.Lawful.{Lawful}
 use Rattle.dk_lawful.specs.Floor.{FromFloor, HasBetween}
 use Rattle.dk_lawful.specs.Checkpoints.{Names}
 use Rattle.dk_lawful.specs.Managed.{is_managed}
-use Rattle.dk_lawful.specs.Rules.{first_broken, KeepsRules}
+use Rattle.dk_lawful.specs.Rules.{first_broken, KeepsRules, IsValidNext}
 use Rattle.dk_lawful.specs.Kept.{IfBoth, KeepsLawful, HistoryAfterPut}
 
 -- what was before is lawful, so the log is lawful after each single event
@@ -142,6 +142,21 @@ NextIsRatifiedNext = (events : List Told) (horizon : ℤ) → Lawful events hori
 abbrev pub FilesStay : Type 0
 FilesStay = (events : List Told) (horizon : ℤ) → Lawful events horizon → (version : ℕ) → version < next_version events → is_managed (table_before events version) ≡ false
     → Present events (Commit_at version) ⊎ HasAbove events version
+
+-- So each version up to the one that joined the catalogue has its commit, or lies below a complete checkpoint, and what stands ratified is
+-- above that one.
+abbrev pub FilesUpToJoin : Type 0
+FilesUpToJoin = (events : List Told) (horizon : ℤ) → Lawful events horizon → (version : ℕ) → version < next_version events
+    → ((since : ℕ) → managed_since events ≡ Some since → version ≤ since) → Present events (Commit_at version) ⊎ HasAbove events version
+
+abbrev pub RatifiedIsAboveJoin : Type 0
+RatifiedIsAboveJoin = (events : List Told) (horizon : ℤ) → Lawful events horizon → (version : ℕ) (name : List ℕ) → standing events version ≡ Some name
+    → (since : ℕ) × (managed_since events ≡ Some since) × (since < version)
+
+-- each commit of the history keeps the rules after those before it
+abbrev pub EachIsValid : Type 0
+EachIsValid = (events : List Told) (horizon : ℤ) → Lawful events horizon → (version : ℕ) (commit : RatifiedCommit) → slice_get (history events) version ≡ Some commit
+    → IsValidNext (commits_before events version) commit.actions
 
 -- what was published stays so, though its commit may go; complete checkpoints are of published versions
 abbrev pub PublishedStays : Type 0

@@ -1,3 +1,4 @@
+pub mod ActorExample
 pub mod Actors
 pub mod Agree
 pub mod BrokenRules
@@ -17,6 +18,7 @@ pub mod Kept
 pub mod Laws
 pub mod Lawful
 pub mod Managed
+pub mod ManagedExample
 pub mod MoreExamples
 pub mod Openable
 pub mod Permits

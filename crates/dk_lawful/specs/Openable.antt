@@ -61,6 +61,24 @@ PlainIsByCommits = (places : List Place) (ratified : ℕ → Option (List ℕ)) 
     → (segment_of places ratified version choice ≡ commit_segment (is_among places) ratified version choice)
     × (first_gap places ratified version choice ≡ commit_gap (is_among places) ratified version choice)
 
+-- A version is read from objects at these places. Two lists that have the same of them, in whatever order, give the same segment and gap, so
+-- that a listing of what stands gives those of the events.
+abbrev pub IsReadFrom : Place → Type 0
+IsReadFrom (Commit_at version) = Unit {0}
+IsReadFrom (Staged version id) = Unit {0}
+IsReadFrom (Classic version) = Unit {0}
+IsReadFrom (Part version part parts) = Unit {0}
+IsReadFrom (V2 version id json) = Unit {0}
+IsReadFrom (Compacted first last) = Unit {0}
+IsReadFrom Hint = ⊥
+IsReadFrom (Sidecar name) = ⊥
+IsReadFrom (Other path) = ⊥
+
+abbrev pub SamePlacesReadAlike : Type 0
+SamePlacesReadAlike = (places others : List Place) (ratified : ℕ → Option (List ℕ)) (version : ℕ) (choice : Choice)
+    → ((place : Place) → IsReadFrom place → is_among places place ≡ is_among others place)
+    → (segment_of places ratified version choice ≡ segment_of others ratified version choice) × (first_gap places ratified version choice ≡ first_gap others ratified version choice)
+
 -- the places of what stands are those at which an object stands
 abbrev pub StandingPlacesStand : Type 0
 StandingPlacesStand = (events : List Told) (place : Place) → (is_among (standing_places events) place ≡ true → Present events place)

@@ -2,7 +2,6 @@
 -- Evolution", "Requirements for Writers", "In-Commit Timestamps", "Catalog-managed tables").
 use Rattle.std.specs.Prelude.{◌≡◌, ℕ, zero, suc, ℤ, pos, Bool, true, false, not, ◌==◌, ◌&&◌, ◌||◌, nat_le, int_le, int_lt, List, Option, Some, None, length, codes, if◌then◌else◌}
 use Rattle.std.specs.List.{list_any, list_all, filter_map}
-use Rattle.std.specs.Str.{bytes_eq}
 use Rattle.dk_model.specs.declared.action.Protocol.{Protocol}
 use Rattle.dk_model.specs.declared.action.Metadata.{Metadata}
 use Rattle.dk_model.specs.declared.action.CommitInfo.{CommitInfo}
@@ -10,6 +9,8 @@ use Rattle.dk_model.specs.declared.action.Action.{Action}
 use Rattle.dk_model.specs.declared.action.Action.TheVariants as action
 use Rattle.dk_model.specs.declared.state.TableState.{TableState}
 use Rattle.dk_model.specs.State.{steps, fold}
+use Rattle.dk_model.specs.Changes.{protocol_in, metadata_in}
+use Rattle.dk_model.specs.Rows.{removes_rows}
 use Rattle.dk_model.specs.Settings.{setting}
 use Rattle.dk_features.specs.Names.{append_only, domain_metadata, catalog_managed}
 use Rattle.dk_features.specs.InForce.{has_feature}
@@ -17,15 +18,7 @@ use Rattle.dk_features.specs.Forms.{is_each_once, has_form, keeps_features}
 use Rattle.dk_lawful.specs.Written.{is_written}
 use Rattle.dk_lawful.specs.Timestamps.{is_set, has_timestamps, said_first, last_timestamp, is_enabled_as_before, is_enabled_since, is_enabled_from_start}
 
--- the protocols and metadata of a commit, and the paths of its file actions
-abbrev pub protocol_in : Action → Option Protocol
-protocol_in (action.Protocol p) = Some p
-protocol_in _ = None
-
-abbrev pub metadata_in : Action → Option Metadata
-metadata_in (action.Metadata m) = Some m
-metadata_in _ = None
-
+-- the paths of a commit's file actions
 abbrev pub file_path_in : Action → Option (List ℕ)
 file_path_in (action.Add f) = Some f.path
 file_path_in (action.Remove r) = Some r.path
@@ -91,10 +84,6 @@ keeps_writer before actions = is_written (steps before actions).protocol (steps 
 unfoldable pub is_append_only : Option Protocol → Option Metadata → Bool
 is_append_only protocol None = false
 is_append_only protocol (Some m) = has_feature protocol append_only && is_set (setting (codes "delta.appendOnly") m)
-
-abbrev pub removes_rows : Action → Bool
-removes_rows (action.Remove r) = r.data_change
-removes_rows _ = false
 
 abbrev pub keeps_rows : TableState → List Action → Bool
 keeps_rows before actions = not (is_append_only before.protocol before.metadata && list_any removes_rows actions)

@@ -6,10 +6,11 @@ use Rattle.dk_model.specs.declared.action.Metadata.{Metadata}
 use Rattle.dk_model.specs.declared.action.Action.{Action}
 use Rattle.dk_model.specs.declared.state.TableState.{TableState}
 use Rattle.dk_model.specs.State.{steps}
-use Rattle.dk_features.specs.Names.{catalog_managed, is_one_of}
+use Rattle.dk_model.specs.NameSets.{is_one_of}
+use Rattle.dk_features.specs.Names.{catalog_managed}
 use Rattle.dk_features.specs.InForce.{has_feature, listed}
 use Rattle.dk_features.specs.Support.{unread, unwritten}
-use Rattle.dk_lawful.specs.Written.{in_commit_timestamp, of_commits, is_read_by, is_written}
+use Rattle.dk_lawful.specs.Written.{in_commit_timestamp, of_commits, is_read_by}
 use Rattle.dk_lawful.specs.Rules.{keeps_heads, keeps_kinds, keeps_paths_apart, keeps_names_apart, keeps_protocol, keeps_rows, keeps_domains, begins_unenabled, keeps_adds, first_broken}
 
 -- the names that a protocol asks for, by lists that count

@@ -1,5 +1,5 @@
 -- The times that commits say (Delta Lake's PROTOCOL.md, "In-Commit Timestamps").
-use Rattle.std.specs.Prelude.{ℕ, ℤ, pos, neg_ℤ, ◌+ℤ◌, List, [], ◌∷◌, codes, Bool, true, false, ◌&&◌, ◌==◌, Option, Some, None, is_none, find, slice_get, nat_le, int_le, int_lt, option_map, option_and_then, if◌then◌else◌}
+use Rattle.std.specs.Prelude.{ℕ, ℤ, pos, neg_ℤ, ◌+ℤ◌, List, [], ◌∷◌, codes, Bool, true, false, ◌&&◌, ◌==◌, Option, Some, None, is_none, find, slice_get, nat_le, int_le, int_lt, option_map, if◌then◌else◌}
 use Rattle.std.specs.List.{list_all, filter_map}
 use Rattle.std.specs.Str.{bytes_eq}
 use Rattle.std.specs.Str.Parse.{digits_value}

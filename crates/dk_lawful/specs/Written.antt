@@ -5,7 +5,8 @@ use Rattle.std.specs.List.{list_all}
 use Rattle.std.specs.Str.{bytes_eq}
 use Rattle.dk_model.specs.declared.action.Protocol.{Protocol}
 use Rattle.dk_model.specs.declared.action.Metadata.{Metadata}
-use Rattle.dk_features.specs.Names.{both, reading_alone, invariants, catalog_managed, is_one_of}
+use Rattle.dk_model.specs.NameSets.{is_one_of}
+use Rattle.dk_features.specs.Names.{both, reading_alone, invariants, catalog_managed}
 use Rattle.dk_features.specs.InForce.{implied, is_implied, listed}
 use Rattle.dk_features.specs.Invariants.{uses_invariants}
 

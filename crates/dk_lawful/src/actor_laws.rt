@@ -1,6 +1,7 @@
-//! The law of those who are at work on a table. The function does nothing when it runs.
+//! The law of those who are at work on a table. None of these functions does anything when it runs.
 
-ghost use Rattle.dk_lawful.specs.Actors.{BegunFits, GreaterHorizonFits, JobsStayFit, NobodyFits, OthersStayFit, PutStaysFit, TransactionsStayFit};
+ghost use Rattle.dk_lawful.specs.ActorExample.{AddsAgain, AddsOne, BothFit, SignedTwiceIsLawful, SignedTwiceIsNotOnce};
+ghost use Rattle.dk_lawful.specs.Actors.{AllFitWithBegun, BegunFits, GreaterHorizonFits, JobsStayFit, NobodyFits, OthersStayFit, PutStaysFit, TransactionsStayFit};
 
 /// What others do on a lawful log leaves a transaction fit, and a job that makes a checkpoint: what they opened still
 /// agrees with the history, an id stands once and after its snapshot, an answered version has it, and what was
@@ -15,4 +16,16 @@ pub fn others_stay_fit()
     ensures start { NobodyFits }
     ensures begun { BegunFits }
     ensures put { PutStaysFit }
+    ensures with_begun { AllFitWithBegun }
+{}
+
+/// A transaction and a job fit that began on the example. Ids stand in no rule of a commit, so a lawful log may have one twice; that each
+/// event adds it only to a history without it, or none does, is what rules that out (Delta Lake's PROTOCOL.md, "Commit Provenance
+/// Information").
+pub fn actors_at_work()
+    ensures fit { BothFit }
+    ensures lawful { SignedTwiceIsLawful }
+    ensures not_once { SignedTwiceIsNotOnce }
+    ensures adds_again { AddsAgain }
+    ensures adds_one { AddsOne }
 {}

@@ -1,7 +1,7 @@
 //! The laws of checkpoints. None of these functions does anything when it runs.
 
 ghost use Rattle.std.specs.Prelude.{[], codes, pos, true, ◌∷◌};
-ghost use Rattle.dk_lawful.specs.CheckpointExample.{checkpointing, clearing, lacking_text, naming, naming_text, whole_text};
+ghost use Rattle.dk_lawful.specs.CheckpointExample.{ClearedFloor, checkpointing, clearing, lacking_text, naming, naming_text, whole_text};
 ghost use Rattle.dk_lawful.specs.CheckpointLaws.{CheckpointMeansOne, PartsStand, ReadPartsStand, ReadTopsStand, TopsStand};
 ghost use Rattle.dk_lawful.specs.ContentLaws.{ClassicMayBeMade, ClassicStands, PartHasShare, PartMayBeMade, ShareComposes, SidecarsHaveFiles, StandingComposes, V2MayBeMade, V2SaysVersion, V2Stands};
 ghost use Rattle.dk_lawful.specs.Example.{IsForbidden, example, first_text, managed_text, ratifying, staged_name_1, staging};
@@ -54,10 +54,11 @@ pub fn example_rows()
 {}
 
 /// The example goes on with two checkpoints of the form V2 in JSON, of either version, after a compacted file; then the
-/// older checkpoint, the compacted file and the first commit may go.
+/// older checkpoint, the compacted file and the first commit may go, after which the floor is version 1.
 pub fn checkpoints_come_and_go()
     ensures come { IsLawfulAfter checkpointing }
     ensures go { IsLawfulAfter clearing }
+    ensures floor { ClearedFloor }
 {}
 
 /// For each condition on checkpoints, on what is written over or deleted, and on what follows a ratification an event that

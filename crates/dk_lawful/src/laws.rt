@@ -1,17 +1,18 @@
 //! The laws of the log, for the crates above. None of these functions does anything when it runs.
 
-ghost use Rattle.std.specs.Prelude.{[], codes, pos, ◌++◌, ◌∷◌, ◌≡◌, ℤ};
+ghost use Rattle.std.specs.Prelude.{[], codes, pos, true, ◌++◌, ◌∷◌, ◌≡◌, ℤ};
 ghost use Rattle.dk_lawful.specs.BrokenRules.{appended, applying_text, informing_text, removing_text, settling_text, sidecar_text};
 ghost use Rattle.dk_lawful.specs.Calls.{DeleteKeepsLawful, ForgetKeepsLawful, KeepsLawfulOnwards, NoCutIsSame, PutNewKeepsLawful, PutOverKeepsLawful, RatifyKeepsLawful, SameIsPastEach};
 ghost use Rattle.dk_lawful.specs.Example.{ExampleHistory, ExampleIsLawful, IsForbidden, example, first_text, listing_text, managed_actions, managed_text, ratifying, second_actions, second_text, shrinking_text, staging, upgrading_text};
 ghost use Rattle.dk_lawful.specs.History.{by_catalogue, by_file, history};
 ghost use Rattle.dk_lawful.specs.Lawful.{Lawful};
-ghost use Rattle.dk_lawful.specs.Laws.{AgreeingHaveSameRules, CommitsStay, CompleteIsPublished, EachCameItsWay, FeaturesStay, FilesStay, FloorIsUpward, GreaterHorizonIsLawful, HistoryGrows, KeptFromFloor, LastIsAvailable, LastIsFromFloor, LastIsPublished, LastPublishedIsOne, LogShowsHistory, LowWriterIsUnmanaged, ManagementStays, NeededStays, NextIsFree, NextIsRatifiedNext, NoneBeyondLast, OneAtATime, PrefixesAreLawful, PublishedStays, PutAddsCommit, PutKeepsLawful, PutLeavesFloor, RatifiedIsManaged, RatifiedStays, ReadLogIsHistory, RulesByHeads, SidecarsStay, StagedCommitIsHistory, StandingCommitIsHistory, TableIsWhole, TakenAddsNothing, UnpublishedIsStaged, WholeLogIsOne};
+ghost use Rattle.dk_lawful.specs.Laws.{AgreeingHaveSameRules, CommitsStay, CompleteIsPublished, EachCameItsWay, EachIsValid, FeaturesStay, FilesStay, FilesUpToJoin, FloorIsUpward, GreaterHorizonIsLawful, HistoryGrows, KeptFromFloor, LastIsAvailable, LastIsFromFloor, LastIsPublished, LastPublishedIsOne, LogShowsHistory, LowWriterIsUnmanaged, ManagementStays, NeededStays, NextIsFree, NextIsRatifiedNext, NoneBeyondLast, OneAtATime, PrefixesAreLawful, PublishedStays, PutAddsCommit, PutKeepsLawful, PutLeavesFloor, RatifiedIsAboveJoin, RatifiedIsManaged, RatifiedStays, ReadLogIsHistory, RulesByHeads, SidecarsStay, StagedCommitIsHistory, StandingCommitIsHistory, TableIsWhole, TakenAddsNothing, UnpublishedIsStaged, WholeLogIsOne};
+ghost use Rattle.dk_lawful.specs.ManagedExample.{ManagedHistory, ManagedIsLawful, adding_text, catalogued, checkpoint_text, late_text, staged_twice};
 ghost use Rattle.dk_lawful.specs.SoFar.{ReadSoFar, RulesSoFar, WrittenHasNeither};
 ghost use Rattle.dk_lawful.specs.Transacted.{TransactedPlainly};
 ghost use Rattle.dk_lawful.specs.MoreExamples.{IsLawfulAfter, cleaning, compacting, dropping, forgetting, hinting, staged_event, storing};
 ghost use Rattle.dk_paths.specs.Names.{commit_path};
-ghost use Rattle.dk_paths.specs.Places.{Compacted, Staged, place_path};
+ghost use Rattle.dk_paths.specs.Places.{Compacted, Staged, V2, place_path};
 ghost use Rattle.dk_paths.specs.Staged.{staged_name};
 ghost use Rattle.dk_store.specs.Told.{Deleted, Forgotten, Made, Over, Ratified};
 
@@ -66,13 +67,16 @@ pub fn needed_stays()
 {}
 
 /// What stands ratified came to a managed table and can be read, staged where it isn't published yet; and a table that is
-/// managed stays so (Delta Lake's PROTOCOL.md, "Catalog-managed tables").
+/// managed stays so. Versions up to the one that joined the catalogue came by files, and what stands ratified is above that one
+/// (Delta Lake's PROTOCOL.md, "Catalog-managed tables").
 pub fn ratified_stays()
     ensures managed { RatifiedIsManaged }
     ensures available { RatifiedStays }
     ensures unpublished { UnpublishedIsStaged }
     ensures next { NextIsRatifiedNext }
     ensures management { ManagementStays }
+    ensures files { FilesUpToJoin }
+    ensures above { RatifiedIsAboveJoin }
 {}
 
 /// What the rules of a commit look at, and that a feature in force stays so (Delta Lake's PROTOCOL.md, "Protocol Evolution"): states
@@ -83,6 +87,7 @@ pub fn rules_of_a_commit()
     ensures heads { RulesByHeads }
     ensures agreeing { AgreeingHaveSameRules }
     ensures features { FeaturesStay }
+    ensures each { EachIsValid }
 
     // what is built so far
     ensures neither { WrittenHasNeither }
@@ -202,4 +207,24 @@ pub fn broken_rules()
 
     // a domain without its feature
     ensures domain_early { IsForbidden example (Made (commit_path 2) settling_text (pos 2)) }
+{}
+
+/// A lawful log of a table that a catalogue manages: two commits of one version are staged, one is ratified and published, the
+/// ratification is forgotten, both staged commits go, and a checkpoint comes (Delta Lake's PROTOCOL.md, "Catalog-managed tables").
+/// Beside it events that lack one condition each, while all else holds.
+pub fn managed_tables()
+    ensures lawful { ManagedIsLawful }
+    ensures history { ManagedHistory }
+
+    // a valid commit by file; a ratification whose commit isn't later than the one before, under another name, or of a later version
+    ensures by_file { IsForbidden staged_twice (Made (commit_path 1) adding_text (pos 3)) }
+    ensures not_later { IsForbidden staged_twice (Ratified 1 (staged_name 1 8)) }
+    ensures other_name { IsForbidden staged_twice (Ratified 1 (codes "x")) }
+    ensures not_next { IsForbidden staged_twice (Ratified 2 (staged_name 2 7)) }
+
+    // a backfill with other bytes; and before the version is published its checkpoint, that it is forgotten, and that it goes
+    ensures other_bytes { IsForbidden catalogued (Made (commit_path 1) late_text (pos 3)) }
+    ensures checkpoint_early { IsForbidden catalogued (Made (place_path (V2 1 9 true)) checkpoint_text (pos 4)) }
+    ensures forgotten_early { IsForbidden catalogued (Forgotten 1) }
+    ensures dropped_early { IsForbidden catalogued (Deleted (place_path (Staged 1 7))) }
 {}

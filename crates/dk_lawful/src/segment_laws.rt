@@ -1,6 +1,6 @@
 //! Laws of what a version is read from. None of these functions does anything when it runs.
 
-ghost use Rattle.dk_lawful.specs.Openable.{CleanupLeavesFloor, EachFromFloorIsKept, OthersLeaveFloor, PlainIsByCommits, StandingPlacesStand};
+ghost use Rattle.dk_lawful.specs.Openable.{CleanupLeavesFloor, EachFromFloorIsKept, OthersLeaveFloor, PlainIsByCommits, SamePlacesReadAlike, StandingPlacesStand};
 ghost use Rattle.dk_lawful.specs.SegmentLaws.{ReadAgrees, ReadWithoutBase, StandingStepMeans};
 ghost use Rattle.dk_pqmodel.specs.FileMeans.{MeansOneList};
 
@@ -18,11 +18,13 @@ pub fn segments_agree()
 /// commit is missing of what it is read from, and each sidecar that its checkpoint names stands. That a Parquet file means at most
 /// one list of rows is a premise, as it is of parts of checkpoints. A cleanup leaves a floor of at most the greater of the floor before
 /// and its cut, and whatever takes no commit, checkpoint or compacted file away leaves the floor (Delta Lake's PROTOCOL.md, "Metadata
-/// Cleanup"). Where neither a checkpoint nor a compacted file is chosen, a version is read from its commits alone.
+/// Cleanup"). Where neither a checkpoint nor a compacted file is chosen, a version is read from its commits alone. What a version is read
+/// from hangs on which places are there, and not on their order, so a listing gives what the events do.
 pub fn versions_stay_kept()
     ensures kept { MeansOneList → EachFromFloorIsKept }
     ensures cleanup { CleanupLeavesFloor }
     ensures others { OthersLeaveFloor }
     ensures plain { PlainIsByCommits }
     ensures places { StandingPlacesStand }
+    ensures alike { SamePlacesReadAlike }
 {}

@@ -1,12 +1,12 @@
 -- What is answered of a file by what its row groups mean.
-use Rattle.std.proofs.Common.{◌≡◌, ℕ, ◌+◌, [], ◌∷◌, List, length, map, Err, refl, sym, ap, subst, ◌∙◌, arith}
+use Rattle.std.proofs.Common.{◌≡◌, ℕ, [], ◌∷◌, List, length, map, true, false, Err, refl, sym, ap, subst, ◌∙◌, arith}
 use Rattle.std.specs.List.{All}
 use Rattle.std.proofs.lemmas.List.Elements.{All-nil, All-cons, All-head, All-tail}
 use Rattle.dk_pqmodel.specs.Shape.{Fields}
-use Rattle.dk_pqmodel.specs.Datum.{Cells, no_cells, one_cell, appended}
+use Rattle.dk_pqmodel.specs.Datum.{Cells}
 use Rattle.dk_pqmodel.specs.Footer.{Footer, RowGroup}
 use Rattle.dk_pqmodel.specs.FooterBytes.{IsFramed, HasFooter}
-use Rattle.dk_pqmodel.specs.FileMeans.{AreShares, FileMeans, all_rows, rows_in}
+use Rattle.dk_pqmodel.specs.FileMeans.{HaveRows, FileMeans, all_rows, rows_in}
 use Rattle.dk_pqmodel.specs.Laid.{Plans, laid, first_misfit}
 use Rattle.dk_pqmodel.specs.declared.fault.PqFault.{PqFault}
 use Rattle.dk_pqmodel.specs.declared.fault.PqFault.TheVariants.{NotParquet, Shape, Compressed, Encoding, Broken, OutOfMemory}
@@ -19,7 +19,9 @@ use Rattle.dk_pqread.specs.Meanings.{Refuses}
 use Rattle.dk_pqread.specs.RowsMeaning.{GroupsMean, IsBroken, Reads}
 use Rattle.dk_pqread.specs.Scans.{first_compressed, first_unread}
 use Rattle.dk_pqread.proofs.Before.{front_is}
-use Rattle.dk_pqread.proofs.DistinctPaths.{HasDistinctPaths}
+use Rattle.dk_pqread.specs.Counts.{counts_agree}
+use Rattle.dk_pqread.proofs.CountsAgree.{rows_more, counts_hold}
+use Rattle.dk_pqread.proofs.DistinctPaths.{HasDistinctPaths, groups_distinct}
 use Rattle.dk_pqread.proofs.Gathering.{groups_count}
 use Rattle.dk_pqread.proofs.PartLaws.{none_is_not_some}
 
@@ -28,12 +30,8 @@ pub before_once : (bytes before part other more : List ℕ) → IsFramed bytes b
 before_once bytes before part other more f g =
     sym (front_is bytes before part f (length part) refl) ∙ front_is bytes other more g (length part) (ap length (framed_once bytes before part other more f g))
 
-rows_more : (a b : Cells) → rows_in (appended a b) ≡ rows_in a + rows_in b
-rows_more no_cells b = omega arith
-rows_more (one_cell c a) b = omega (arith, rows_more a b)
-
 -- shares of the same groups have as many rows
-same_count : (before : List ℕ) (plans : Plans) (groups : List RowGroup) (a b : List Cells) → AreShares before plans groups a → AreShares before plans groups b → rows_in (all_rows a) ≡ rows_in (all_rows b)
+same_count : (before : List ℕ) (plans : Plans) (groups : List RowGroup) (a b : List Cells) → HaveRows before plans groups a → HaveRows before plans groups b → rows_in (all_rows a) ≡ rows_in (all_rows b)
 same_count before plans [] [] [] f g = refl
 same_count before plans [] [] (y ∷ b) f g = absurd g
 same_count before plans [] (x ∷ a) b f g = absurd f
@@ -99,6 +97,17 @@ module _ (wanted : Fields) (bytes before : List ℕ) (footer : Footer) (clear : 
   file_refused (Shape c) h = absurd h
   file_refused (Compressed c n) h = absurd h
   file_refused (Encoding c n) h = absurd h
+
+  -- counts that don't go together are those of no rows
+  pub counts_refused : counts_agree (columns_read wanted footer) footer.groups footer.rows ≡ false → IsBroken wanted bytes
+  counts_refused differ =
+      broken
+      (λ rows m. (
+      let mean = groups_mean rows m in
+      let count = sym (groups_count before (laid wanted footer.fields) footer.groups rows mean.0) ∙ mean.1 in
+      let agree = counts_hold before (laid wanted footer.fields) footer.groups mean.0.shares footer.rows (groups_distinct clear.part footer clear.spelled) mean.0.held count in
+      let never : false ≡ true = sym differ ∙ agree in
+      cc))
 
   module _ (rows : Cells) (all : GroupsMean before (laid wanted footer.fields) footer.groups rows) where
     pub file_found : rows_in rows ≡ footer.rows → FileMeans wanted bytes rows

@@ -8,7 +8,7 @@ use Rattle.dk_grammar.proofs.Runs.{same_front}
 use Rattle.dk_grammar.proofs.StructSpellings.{fields_long}
 use Rattle.dk_pqmodel.specs.Datum.{Value, Column}
 use Rattle.dk_pqmodel.specs.Footer.{Chunk}
-use Rattle.dk_pqmodel.specs.FileMeans.{HasTriples}
+use Rattle.dk_pqmodel.specs.FileMeans.{HasPages, HasTriples}
 use Rattle.dk_pqmodel.specs.FilePages.{ColumnAt, physical_type, AreData, IsFirst}
 use Rattle.dk_pqmodel.specs.declared.fault.PqFault.{PqFault}
 use Rattle.dk_pages.specs.Pages.{Page, page_at}
@@ -183,8 +183,8 @@ ReadAs before column chunk triples =
     ⊎ ((page : Page) × (entries : List Value) × (IsPageAt before (first_place chunk) page) × (EntriesHold column.kind page entries) × DataFrom before column (Some entries) page.next chunk.values triples)
 
 module _ (before : List ℕ) (column : ColumnAt) (chunk : Chunk) where
-  pub chunk_means : (triples : Column) → HasTriples before column chunk triples → ReadAs before column chunk triples
-  chunk_means triples h = by_dictionary h.dictionary h.entries h.read
+  pages_mean : (triples : Column) → length triples ≡ chunk.values → HasPages before column chunk triples → ReadAs before column chunk triples
+  pages_mean triples count h = by_dictionary h.dictionary h.entries h.read
     where
       by_dictionary : (dictionary : Option (List Value)) → IsFirst column.kind dictionary h.first → AreData column dictionary h.pages → ReadAs before column chunk triples
       by_dictionary None none read = inl (record {
@@ -195,7 +195,7 @@ module _ (before : List ℕ) (column : ColumnAt) (chunk : Chunk) where
         begins = h.begins;
         read = read;
         joined = h.joined;
-        count = h.count;
+        count = count;
       })
       by_dictionary (Some entries) is read =
           let g = dictionary_given column.kind before h.front h.first (flat_map (λ x. x.0) h.pages ++ h.behind) entries h.whole is in
@@ -212,26 +212,35 @@ module _ (before : List ℕ) (column : ColumnAt) (chunk : Chunk) where
               begins = sym g.next_is;
               read = read;
               joined = h.joined;
-              count = h.count;
+              count = count;
             },
           )
+
+  pub chunk_means : 0 < chunk.values → (triples : Column) → HasTriples before column chunk triples → ReadAs before column chunk triples
+  chunk_means some triples h = by_pages h.pages
+    where
+      by_pages : (chunk.values ≡ 0) ⊎ HasPages before column chunk triples → ReadAs before column chunk triples
+      by_pages (inl none) = absurd (omega (arith, some, none))
+      by_pages (inr pages) = pages_mean triples h.count pages
 
   module _ (plain : chunk.codec ≡ pos 0) (typed : chunk.physical ≡ physical_type column.kind) where
     pub means_chunk : (triples : Column) → ReadAs before column chunk triples → HasTriples before column chunk triples
     means_chunk triples (inl d) = record {
       plain = plain;
       typed = typed;
-      front = d.front;
-      first = [];
-      pages = d.pages;
-      behind = d.behind;
-      whole = d.whole;
-      begins = d.begins;
-      dictionary = None;
-      entries = refl;
-      read = d.read;
-      joined = d.joined;
       count = d.count;
+      pages = inr (record {
+        front = d.front;
+        first = [];
+        pages = d.pages;
+        behind = d.behind;
+        whole = d.whole;
+        begins = d.begins;
+        dictionary = None;
+        entries = refl;
+        read = d.read;
+        joined = d.joined;
+      });
     }
     means_chunk triples (inr (page, entries, at, holds, d)) =
         let s = dictionary_found column.kind before (first_place chunk) page entries at holds in
@@ -240,18 +249,23 @@ module _ (before : List ℕ) (column : ColumnAt) (chunk : Chunk) where
         record {
           plain = plain;
           typed = typed;
-          front = s.front;
-          first = s.part;
-          pages = d.pages;
-          behind = d.behind;
-          whole = s.whole ∙ ap (λ z. s.front ++ (s.part ++ z)) (sym same.1);
-          begins = s.begins;
-          dictionary = Some entries;
-          entries = s.dictionary;
-          read = d.read;
-          joined = d.joined;
           count = d.count;
+          pages = inr (record {
+            front = s.front;
+            first = s.part;
+            pages = d.pages;
+            behind = d.behind;
+            whole = s.whole ∙ ap (λ z. s.front ++ (s.part ++ z)) (sym same.1);
+            begins = s.begins;
+            dictionary = Some entries;
+            entries = s.dictionary;
+            read = d.read;
+            joined = d.joined;
+          });
         }
+
+    pub nothing_wanted : chunk.values ≡ 0 → HasTriples before column chunk []
+    nothing_wanted none = record { plain = plain; typed = typed; count = sym none; pages = inl none }
 
 -- ---- a chunk holds at most one list of triples
 
@@ -307,19 +321,29 @@ module _ (before : List ℕ) (column : ColumnAt) (chunk : Chunk) where
       data_once before column (Some entries) page.next chunk.values a b d same
 
   pub chunk_once : (a b : Column) → HasTriples before column chunk a → HasTriples before column chunk b → a ≡ b
-  chunk_once a b first second = read_once a b (chunk_means before column chunk a first) (chunk_means before column chunk b second)
+  chunk_once a b first second = by_count chunk.values refl
+    where
+      by_count : (n : ℕ) → chunk.values ≡ n → a ≡ b
+      by_count zero e = no_triples a b 0 refl (first.count ∙ e) (second.count ∙ e)
+      by_count (suc n) e =
+          let some : 0 < chunk.values = omega (arith, e) in
+          read_once a b (chunk_means before column chunk some a first) (chunk_means before column chunk some b second)
 
 -- ---- what the code answers of a chunk
 
 module _ (before : List ℕ) (column : ColumnAt) (chunk : Chunk) where
-  pub beyond : length before < first_place chunk → (triples : Column) → HasTriples before column chunk triples → ⊥
-  beyond far triples h =
-      let long : length before ≡ length h.front + length (h.first ++ (flat_map (λ x. x.0) h.pages ++ h.behind)) = ap length h.whole ∙ length-append h.front (h.first ++ (flat_map (λ x. x.0) h.pages ++ h.behind)) in
-      omega (arith, far, long, h.begins)
-
   module _ (some : 0 < chunk.values) where
+    pub beyond : length before < first_place chunk → (triples : Column) → HasTriples before column chunk triples → ⊥
+    beyond far triples t = by_pages t.pages
+      where
+        by_pages : (chunk.values ≡ 0) ⊎ HasPages before column chunk triples → ⊥
+        by_pages (inl none) = omega (arith, some, none)
+        by_pages (inr h) =
+            let long : length before ≡ length h.front + length (h.first ++ (flat_map (λ x. x.0) h.pages ++ h.behind)) = ap length h.whole ∙ length-append h.front (h.first ++ (flat_map (λ x. x.0) h.pages ++ h.behind)) in
+            omega (arith, far, long, h.begins)
+
     pub no_first_page : page_at before (first_place chunk) ≡ None → (triples : Column) → HasTriples before column chunk triples → ⊥
-    no_first_page none triples h = by_kind (chunk_means before column chunk triples h)
+    no_first_page none triples h = by_kind (chunk_means before column chunk some triples h)
       where
         by_kind : ReadAs before column chunk triples → ⊥
         by_kind (inl d) = (let f = data_first before column None (first_place chunk) chunk.values triples some d in none_is_not_some f.page (sym none ∙ page_only before (first_place chunk) f.page f.at))
@@ -345,7 +369,7 @@ module _ (before : List ℕ) (column : ColumnAt) (chunk : Chunk) where
       Behind triples = (entries : List Value) × (EntriesHold column.kind page entries) × DataFrom before column (Some entries) page.next chunk.values triples
 
       behind_dictionary : is_dictionary page.kind ≡ true → (triples : Column) → HasTriples before column chunk triples → Behind triples
-      behind_dictionary is triples h = by_kind (chunk_means before column chunk triples h)
+      behind_dictionary is triples h = by_kind (chunk_means before column chunk some triples h)
         where
           by_kind : ReadAs before column chunk triples → Behind triples
           by_kind (inl d) = absurd (first_is_data triples d is)
@@ -362,7 +386,7 @@ module _ (before : List ℕ) (column : ColumnAt) (chunk : Chunk) where
             → Finds view result (HasTriples before column chunk)
         data_chunk view result other h =
             finds_as view result (DataFrom before column None (first_place chunk) chunk.values) (HasTriples before column chunk) (λ triples d. means_chunk before column chunk plain typed triples (inl d))
-            (λ triples t. by_kind triples (chunk_means before column chunk triples t)) h
+            (λ triples t. by_kind triples (chunk_means before column chunk some triples t)) h
           where
             by_kind : (triples : Column) → ReadAs before column chunk triples → DataFrom before column None (first_place chunk) chunk.values triples
             by_kind triples (inl d) = d
@@ -378,8 +402,3 @@ module _ (before : List ℕ) (column : ColumnAt) (chunk : Chunk) where
             let b = behind_dictionary is triples t in
             subst (λ (vs : List Value). DataFrom before column (Some vs) page.next chunk.values triples) (entries_once column.kind page b.0 entries b.1 holds) b.2))
             h
-
-  module _ (plain : chunk.codec ≡ pos 0) (typed : chunk.physical ≡ physical_type column.kind) where
-    pub nothing_wanted : chunk.values ≡ 0 → first_place chunk ≤ length before → HasTriples before column chunk []
-    nothing_wanted none within =
-        means_chunk before column chunk plain typed [] (inl (subst (λ n. DataFrom before column None (first_place chunk) n []) (sym none) (data_none before column None (first_place chunk) within)))

@@ -18,7 +18,7 @@ use Rattle.dk_pages.specs.declared.header.PageKind.{PageKind}
 use Rattle.dk_pages.specs.declared.header.PageKind.TheVariants.{DataV1, DataV2, Dictionary}
 use Rattle.dk_pages.proofs.PageKinds.{natural_is, is_natural, int32_some, page_of_kind, SaysDictionary, SaysKind, page_kind, dictionary_stands}
 use Rattle.dk_pqread.specs.ChunkMeaning.{AreWhole, EntriesHold, is_dictionary, is_entry_code}
-use Rattle.dk_pqread.specs.Gives.{Fails}
+use Rattle.dk_levels.specs.Answers.{FailsMeant}
 use Rattle.dk_pqread.specs.Meanings.{Refuses, Finds}
 use Rattle.dk_pqread.specs.Values.{plains_at}
 use Rattle.dk_pqread.proofs.Finding.{fails_refuses, finds_as}
@@ -119,7 +119,7 @@ entries_once kind page a b first second =
     ap (λ (x : Taken). x.0) e
 
 module _ (kind : Leaf) (total : ℕ) (bytes : List ℕ) where
-  pub whole_refused : (fault : PqFault) → Fails fault (plains_at kind total bytes) → Refuses fault (AreWhole kind total bytes)
+  pub whole_refused : (fault : PqFault) → FailsMeant fault (plains_at kind total bytes) → Refuses fault (AreWhole kind total bytes)
   whole_refused fault h =
       fails_refuses fault (plains_at kind total bytes) (AreWhole kind total bytes) (λ none values held. none_is_not_some (values, []) (sym none ∙ whole_read kind total bytes values held)) h
 

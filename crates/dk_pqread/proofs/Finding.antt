@@ -2,7 +2,7 @@
 use Rattle.std.proofs.Common.{◌≡◌, Option, Some, None, Result, Ok, Err}
 use Rattle.dk_pqmodel.specs.declared.fault.PqFault.{PqFault}
 use Rattle.dk_pqmodel.specs.declared.fault.PqFault.TheVariants.{NotParquet, Shape, Compressed, Encoding, Broken, OutOfMemory}
-use Rattle.dk_pqread.specs.Gives.{Fails, Gives}
+use Rattle.dk_levels.specs.Answers.{FailsMeant, GivesMeant}
 use Rattle.dk_pqread.specs.Meanings.{Refuses, Finds}
 
 -- where what is meant has a part that is refused, it is refused
@@ -15,7 +15,7 @@ refuses_by (Compressed c n) M N part h = absurd h
 refuses_by (Encoding c n) M N part h = absurd h
 
 -- where nothing is given, nothing is meant
-pub fails_refuses : {Y Z : Type 0} (fault : PqFault) (meant : Option Z) (M : Y → Type 0) → (meant ≡ None → (y : Y) → M y → ⊥) → Fails fault meant → Refuses fault M
+pub fails_refuses : {Y Z : Type 0} (fault : PqFault) (meant : Option Z) (M : Y → Type 0) → (meant ≡ None → (y : Y) → M y → ⊥) → FailsMeant fault meant → Refuses fault M
 fails_refuses Broken meant M never h = never h
 fails_refuses OutOfMemory meant M never h = tt
 fails_refuses NotParquet meant M never h = absurd h
@@ -29,7 +29,7 @@ finds_as view (Ok x) M N into back h = into (view x) h
 finds_as view (Err fault) M N into back h = refuses_by fault M N (λ y n. (y, back y n)) h
 
 -- what is given by cases is what is meant
-pub finds_given : {X Y : Type 0} (view : X → Y) (result : Result X PqFault) (meant : Option Y) (M : Y → Type 0) → ((y : Y) → meant ≡ Some y → M y) → (meant ≡ None → (y : Y) → M y → ⊥) → Gives view result meant
+pub finds_given : {X Y : Type 0} (view : X → Y) (result : Result X PqFault) (meant : Option Y) (M : Y → Type 0) → ((y : Y) → meant ≡ Some y → M y) → (meant ≡ None → (y : Y) → M y → ⊥) → GivesMeant view result meant
     → Finds view result M
 finds_given view (Ok x) meant M sound never h = sound (view x) h
 finds_given view (Err fault) meant M sound never h = fails_refuses fault meant M never h

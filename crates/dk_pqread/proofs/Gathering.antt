@@ -3,7 +3,7 @@ use Rattle.std.proofs.Common.{◌≡◌, ℕ, zero, suc, ◌+◌, ◌<◌, List,
 use Rattle.std.proofs.lemmas.List.{map-append, take_more}
 use Rattle.dk_pqmodel.specs.Datum.{Datum, Cells, no_cells, one_cell, appended}
 use Rattle.dk_pqmodel.specs.Footer.{RowGroup}
-use Rattle.dk_pqmodel.specs.FileMeans.{IsShare, AreShares, all_rows, rows_in}
+use Rattle.dk_pqmodel.specs.FileMeans.{HasRows, HaveRows, all_rows, rows_in}
 use Rattle.dk_pqmodel.specs.Laid.{Plans, both_read, turned_all, in_group, widened_each, rows_widened}
 use Rattle.dk_pqmodel.specs.declared.fault.PqFault.{PqFault}
 use Rattle.dk_pqmeta.specs.View.{group_view}
@@ -81,8 +81,8 @@ module _ (before : List ℕ) (plans : Plans) where
   abbrev Turn : Datum → Option Datum
   Turn = in_group (widened_each plans)
 
-  shares_last : (groups : List RowGroup) (shares : List Cells) (group : RowGroup) (own : Cells) → AreShares before plans groups shares → IsShare before plans group own
-      → AreShares before plans (groups ++ group ∷ []) (shares ++ own ∷ [])
+  shares_last : (groups : List RowGroup) (shares : List Cells) (group : RowGroup) (own : Cells) → HaveRows before plans groups shares → HasRows before plans group own
+      → HaveRows before plans (groups ++ group ∷ []) (shares ++ own ∷ [])
   shares_last [] [] group own held share = (share, tt)
   shares_last [] (x ∷ shares) group own held share = absurd held
   shares_last (g ∷ groups) [] group own held share = absurd held
@@ -101,13 +101,13 @@ module _ (before : List ℕ) (plans : Plans) where
 
   -- a group of several that mean rows means some
   group_in : (groups : List code.RowGroup) (i : ℕ) (group : code.RowGroup) (shares : List Cells) (rows : Cells) → i < length groups → group ≡ get_or groups i group
-      → AreShares before plans (map group_view groups) shares → rows_widened plans (all_rows shares) ≡ Some rows → (more : Cells) × GroupMeans before plans (group_view group) more
+      → HaveRows before plans (map group_view groups) shares → rows_widened plans (all_rows shares) ≡ Some rows → (more : Cells) × GroupMeans before plans (group_view group) more
   group_in [] i group shares rows h is held widened = absurd (omega arith)
   group_in (g ∷ groups) i group [] rows h is held widened = absurd held
   group_in (g ∷ groups) zero group (share ∷ shares) rows h is held widened =
       let apart = turned_apart Turn share (all_rows shares) rows widened in (
         apart.first,
-        record { own = share; share = subst (λ (x : code.RowGroup). IsShare before plans (group_view x) share) (sym is) held.0; widened = apart.begins },
+        record { own = share; share = subst (λ (x : code.RowGroup). HasRows before plans (group_view x) share) (sym is) held.0; widened = apart.begins },
       )
   group_in (g ∷ groups) (suc i) group (share ∷ shares) rows h is held widened =
       let apart = turned_apart Turn share (all_rows shares) rows widened in

@@ -4,6 +4,7 @@ pub mod Bits
 pub mod ChunkPages
 pub mod Chunks
 pub mod Columns
+pub mod CountsAgree
 pub mod Cutting
 pub mod DataPages
 pub mod Depths
@@ -29,6 +30,7 @@ pub mod PartLaws
 pub mod PlainLaws
 pub mod PlainSteps
 pub mod RunReading
+pub mod RowStarts
 pub mod Scanning
 pub mod Shares
 pub mod Unopposed

@@ -10,7 +10,7 @@ use Rattle.dk_pqmodel.specs.FileSchema.{FileNodes}
 use Rattle.dk_pqmodel.specs.Fits.{Matches, AreRowsOf, AreTriplesOf}
 use Rattle.dk_pqmodel.specs.Footer.{RowGroup, Footer}
 use Rattle.dk_pqmodel.specs.Laid.{missing, value, members, elements, entries, Plans, no_plans, one_plan, all_missing, laid, cuts_of, rows_widened}
-use Rattle.dk_pqmodel.specs.FileMeans.{columns_of, rows_in, IsShare, AreShares, all_rows, MeansOneList}
+use Rattle.dk_pqmodel.specs.FileMeans.{columns_of, rows_in, HasRows, HaveRows, all_rows, MeansOneList}
 use Rattle.dk_pqmeta.proofs.Footers.{one_footer}
 use Rattle.dk_pqmeta.proofs.Framing.{framed_once}
 use Rattle.dk_pqread.proofs.Before.{front_is}
@@ -58,14 +58,14 @@ module _ (wanted : Fields) (nodes : FileNodes) where
           one_solid_reading (cuts_of (laid wanted nodes)) rows others columns cut.wide cut.solid first second
 
   module _ (before : List ℕ) where
-    share_once : (g : RowGroup) (rows others : Cells) → HasDistinctPaths g → IsShare before (laid wanted nodes) g rows → IsShare before (laid wanted nodes) g others → rows ≡ others
+    share_once : (g : RowGroup) (rows others : Cells) → HasDistinctPaths g → HasRows before (laid wanted nodes) g rows → HasRows before (laid wanted nodes) g others → rows ≡ others
     share_once g rows others distinct first second =
         let same : first.columns ≡ second.columns =
         columns_once before g distinct (columns_of (laid wanted nodes) 0 0) first.columns second.columns first.held second.held in
         rows_once rows others second.columns (subst (λ columns. AreTriplesOf (cuts_of (laid wanted nodes)) rows columns) same first.triples) second.triples (first.count ∙ sym second.count)
 
-    shares_once : (groups : List RowGroup) (shares others : List Cells) → All HasDistinctPaths groups → AreShares before (laid wanted nodes) groups shares
-        → AreShares before (laid wanted nodes) groups others → shares ≡ others
+    shares_once : (groups : List RowGroup) (shares others : List Cells) → All HasDistinctPaths groups → HaveRows before (laid wanted nodes) groups shares
+        → HaveRows before (laid wanted nodes) groups others → shares ≡ others
     shares_once [] [] [] distinct first second = refl
     shares_once [] [] (y ∷ ys) distinct first second = absurd second
     shares_once [] (x ∷ xs) others distinct first second = absurd first
@@ -84,9 +84,9 @@ one_list wanted bytes rows others first second =
     sym (front_is bytes first.before first.part first.framed (length first.part) refl) ∙ front_is bytes second.before second.part second.framed (length first.part) (ap length part_is) in
     let footer_is : first.footer ≡ second.footer =
     one_footer bytes first.footer second.footer (first.before, first.part, first.framed, first.spelled) (second.before, second.part, second.framed, second.spelled) in
-    let held : AreShares second.before (laid wanted second.footer.fields) second.footer.groups first.shares =
-    subst (λ (f : Footer). AreShares second.before (laid wanted f.fields) f.groups first.shares) footer_is
-    (subst (λ before. AreShares before (laid wanted first.footer.fields) first.footer.groups first.shares) before_is first.held) in
+    let held : HaveRows second.before (laid wanted second.footer.fields) second.footer.groups first.shares =
+    subst (λ (f : Footer). HaveRows second.before (laid wanted f.fields) f.groups first.shares) footer_is
+    (subst (λ before. HaveRows before (laid wanted first.footer.fields) first.footer.groups first.shares) before_is first.held) in
     let shares_are : first.shares ≡ second.shares =
     shares_once wanted second.footer.fields second.before second.footer.groups first.shares second.shares (groups_distinct second.part second.footer second.spelled) held second.held in
     some_is rows others

@@ -8,7 +8,7 @@ use Rattle.dk_pqmodel.specs.FilePages.{ColumnAt, HoldLevels, HoldValues, HoldTri
 use Rattle.dk_pqmodel.specs.declared.fault.PqFault.{PqFault}
 use Rattle.dk_pages.specs.Pages.{Page}
 use Rattle.dk_pages.specs.Split.{Parts}
-use Rattle.dk_pqread.specs.Gives.{Gives}
+use Rattle.dk_levels.specs.Answers.{GivesMeant}
 use Rattle.dk_pqread.specs.Meanings.{Refuses, Finds, full_count, zipped, triples_then}
 use Rattle.dk_pqread.specs.PageMeaning.{PageHolds, PartsHold, AddsTriples}
 use Rattle.dk_pqread.proofs.Finding.{refuses_by, finds_given}
@@ -80,7 +80,7 @@ module _ (column : ColumnAt) (dictionary : Option (List Value)) (code : ℤ) (co
           by_zip (Some ts) e g = (ts, sym (some_is (before ++ ts) after g), is_held ts e)
 
       -- the triples are those of the levels and values
-      pub triples_found : {X : Type 0} (view : X → Column) (result : Result X PqFault) (before : Column) → Gives view result (triples_then before (zipped column.rep column.def rs ds vs)) → Finds view result (AddsTriples before Held)
+      pub triples_found : {X : Type 0} (view : X → Column) (result : Result X PqFault) (before : Column) → GivesMeant view result (triples_then before (zipped column.rep column.def rs ds vs)) → Finds view result (AddsTriples before Held)
       triples_found view result before h =
           finds_given view result (triples_then before (zipped column.rep column.def rs ds vs)) (AddsTriples before Held) (added before)
           (λ none y n. none_is_not_some (before ++ n.0) (sym none ∙ ap (triples_then before) (held_is n.0 n.2))) h

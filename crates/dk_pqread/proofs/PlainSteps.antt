@@ -6,7 +6,7 @@ use Rattle.dk_grammar.specs.Digits.{digits_of}
 use Rattle.dk_pqmodel.specs.Shape.{Leaf}
 use Rattle.dk_pqmodel.specs.Datum.{Value}
 use Rattle.dk_pqmodel.specs.declared.fault.PqFault.{PqFault}
-use Rattle.dk_pqread.specs.Gives.{Fails}
+use Rattle.dk_levels.specs.Answers.{FailsMeant}
 use Rattle.dk_pqread.specs.Values.{plain_at, plains_at, bits_in, flag_of, values_then}
 use Rattle.dk_pqread.proofs.Failing.{fails_same}
 
@@ -24,7 +24,7 @@ module _ (kind : Leaf) (n i : ℕ) (done : List Value) (rest : List ℕ) (whole 
   value_taken v behind now e pushed =
       ap (λ x. values_then x (plains_at kind (n - (i + 1)) behind)) pushed ∙ sym (one_taken done v (plains_at kind (n - (i + 1)) behind)) ∙ (rw e at opened)
 
-  pub value_missing : (fault : PqFault) → Fails fault (plain_at kind rest) → Fails fault whole
+  pub value_missing : (fault : PqFault) → FailsMeant fault (plain_at kind rest) → FailsMeant fault whole
   value_missing fault bad = fails_same fault (plain_at kind rest) whole (λ e. sym opened ∙ rw e refl) bad
 
 -- ---- bits

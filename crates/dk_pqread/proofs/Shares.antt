@@ -1,7 +1,7 @@
 -- The rows of a group are found of its columns, and only they.
 use Rattle.std.proofs.Common.{◌≡◌, ℕ, zero, suc, ◌+◌, add-one, Bool, true, false, Option, Some, None, [], ◌∷◌, ◌++◌, List, length, Result, Ok, Err, refl, sym, ap, subst, ◌∙◌, arith}
 use Rattle.std.specs.Prelude.{IfOk, IfErr, IsErrOf}
-use Rattle.dk_levels.specs.Fronts.{IsBrokenOrMemory}
+use Rattle.dk_levels.specs.Answers.{IsBrokenOrMemory}
 use Rattle.dk_levels.specs.Solid.{IsReadable}
 use Rattle.dk_levels.proofs.Again.{one_reading}
 use Rattle.dk_pqmodel.specs.Shape.{Fields, no_fields, root}
@@ -9,7 +9,7 @@ use Rattle.dk_pqmodel.specs.Datum as datum
 use Rattle.dk_pqmodel.specs.Datum.{Cells, no_cells, one_cell, Column, appended}
 use Rattle.dk_pqmodel.specs.Fits.{AreTriplesOf, AreRowsOf}
 use Rattle.dk_pqmodel.specs.Footer.{RowGroup, is_new_each}
-use Rattle.dk_pqmodel.specs.FileMeans.{HasColumns, IsShare, columns_of, rows_in}
+use Rattle.dk_pqmodel.specs.FileMeans.{HasColumns, HasRows, columns_of, rows_in}
 use Rattle.dk_pqmodel.specs.Laid.{missing, value, members, elements, entries, Plans, no_plans, one_plan, all_missing, cuts_of, rows_widened}
 use Rattle.dk_pqmodel.specs.RowView.{row_of, rows_of}
 use Rattle.dk_pqmodel.specs.Triples.{later_triples}
@@ -17,7 +17,7 @@ use Rattle.dk_pqmodel.specs.declared.row.Row.{Row}
 use Rattle.dk_pqmodel.specs.declared.fault.PqFault.{PqFault}
 use Rattle.dk_pqmodel.specs.declared.fault.PqFault.TheVariants.{NotParquet, Shape, Compressed, Encoding, Broken, OutOfMemory}
 use Rattle.dk_pqread.specs.Cells.{cells_then}
-use Rattle.dk_pqread.specs.Gives.{Gives}
+use Rattle.dk_levels.specs.Answers.{GivesMeant}
 use Rattle.dk_pqread.specs.Meanings.{Refuses, Finds}
 use Rattle.dk_pqread.specs.RowsMeaning.{AddsRows, GroupMeans, empty_rows}
 use Rattle.dk_pqread.proofs.Finding.{refuses_by, finds_given}
@@ -42,21 +42,21 @@ rows_counted [] = refl
 rows_counted (row ∷ rows) = omega (arith, rows_counted rows)
 
 module _ (before : List ℕ) (plans : Plans) (group : RowGroup) where
-  pub columns_refused : (fault : PqFault) → Refuses fault (HasColumns before group (columns_of plans 0 0)) → Refuses fault (IsShare before plans group)
-  columns_refused fault h = refuses_by fault (HasColumns before group (columns_of plans 0 0)) (IsShare before plans group) (λ rows g. (g.columns, g.held)) h
+  pub columns_refused : (fault : PqFault) → Refuses fault (HasColumns before group (columns_of plans 0 0)) → Refuses fault (HasRows before plans group)
+  columns_refused fault h = refuses_by fault (HasColumns before group (columns_of plans 0 0)) (HasRows before plans group) (λ rows g. (g.columns, g.held)) h
 
   module _ (distinct : is_new_each [] group.columns ≡ true) (columns : List Column) (held : HasColumns before group (columns_of plans 0 0) columns) where
-    of_columns : (rows : Cells) → IsShare before plans group rows → AreTriplesOf (cuts_of plans) rows columns
+    of_columns : (rows : Cells) → HasRows before plans group rows → AreTriplesOf (cuts_of plans) rows columns
     of_columns rows g = subst (λ cs. AreTriplesOf (cuts_of plans) rows cs) (columns_once before group distinct (columns_of plans 0 0) g.columns columns g.held held) g.triples
 
-    pub join_refused : (fault : PqFault) → Refuses fault (λ rows. AreTriplesOf (cuts_of plans) rows columns) → Refuses fault (IsShare before plans group)
-    join_refused fault h = refuses_by fault (λ rows. AreTriplesOf (cuts_of plans) rows columns) (IsShare before plans group) (λ rows g. (rows, of_columns rows g)) h
+    pub join_refused : (fault : PqFault) → Refuses fault (λ rows. AreTriplesOf (cuts_of plans) rows columns) → Refuses fault (HasRows before plans group)
+    join_refused fault h = refuses_by fault (λ rows. AreTriplesOf (cuts_of plans) rows columns) (HasRows before plans group) (λ rows g. (rows, of_columns rows g)) h
 
     module _ (rows : Cells) (triples : AreTriplesOf (cuts_of plans) rows columns) where
-      pub share_found : rows_in rows ≡ group.rows → IsShare before plans group rows
+      pub share_found : rows_in rows ≡ group.rows → HasRows before plans group rows
       share_found count = record { columns = columns; held = held; triples = triples; count = count }
 
-      pub other_count : IsReadable (cuts_of plans) → (rows_in rows ≡ group.rows → ⊥) → (others : Cells) → IsShare before plans group others → ⊥
+      pub other_count : IsReadable (cuts_of plans) → (rows_in rows ≡ group.rows → ⊥) → (others : Cells) → HasRows before plans group others → ⊥
       other_count readable differs others g =
           let same : others ≡ rows = one_reading (cuts_of plans) others rows columns readable (of_columns others g) triples in
           differs (ap rows_in (sym same) ∙ g.count)
@@ -83,9 +83,9 @@ empty_count : (n : ℕ) → rows_in (empty_rows n) ≡ n
 empty_count zero = refl
 empty_count (suc n) = omega (arith, empty_count n)
 
-pub empty_share : (before : List ℕ) (plans : Plans) (group : RowGroup) (rows : Cells) → all_missing plans ≡ true → rows ≡ empty_rows group.rows → IsShare before plans group rows
+pub empty_share : (before : List ℕ) (plans : Plans) (group : RowGroup) (rows : Cells) → all_missing plans ≡ true → rows ≡ empty_rows group.rows → HasRows before plans group rows
 empty_share before plans group rows gone is =
-    subst (IsShare before plans group) (sym is)
+    subst (HasRows before plans group) (sym is)
     record {
       columns = [];
       held = subst (λ cs. HasColumns before group cs []) (sym (columns_missing plans gone 0 0)) tt;
@@ -109,7 +109,7 @@ empty_more rows now row n done empty pushed =
 -- ---- a group has at most one list of rows
 
 module _ (before : List ℕ) (plans : Plans) (group : RowGroup) (distinct : is_new_each [] group.columns ≡ true) (readable : all_missing plans ≡ false → IsReadable (cuts_of plans)) where
-  share_once : (a b : Cells) → IsShare before plans group a → IsShare before plans group b → a ≡ b
+  share_once : (a b : Cells) → HasRows before plans group a → HasRows before plans group b → a ≡ b
   share_once a b f g = by_plans (all_missing plans) refl
     where
       by_plans : (lacks : Bool) → all_missing plans ≡ lacks → a ≡ b
@@ -119,11 +119,11 @@ module _ (before : List ℕ) (plans : Plans) (group : RowGroup) (distinct : is_n
           empty_rows_once a b (subst (λ fs. AreRowsOf fs a) none f.triples.0) (subst (λ fs. AreRowsOf fs b) none g.triples.0) (f.count ∙ sym g.count)
 
   -- where a group has no rows, none are added
-  pub own_refused : (done : Cells) (fault : PqFault) → Refuses fault (IsShare before plans group) → Refuses fault (AddsRows done (GroupMeans before plans group))
-  own_refused done fault h = refuses_by fault (IsShare before plans group) (AddsRows done (GroupMeans before plans group)) (λ rows (more, after, one). (one.own, one.share)) h
+  pub own_refused : (done : Cells) (fault : PqFault) → Refuses fault (HasRows before plans group) → Refuses fault (AddsRows done (GroupMeans before plans group))
+  own_refused done fault h = refuses_by fault (HasRows before plans group) (AddsRows done (GroupMeans before plans group)) (λ rows (more, after, one). (one.own, one.share)) h
 
   -- those that are made of the group's own are added
-  pub own_added : {X : Type 0} (view : X → Cells) (result : Result X PqFault) (done own : Cells) → IsShare before plans group own → Gives view result (cells_then done (rows_widened plans own))
+  pub own_added : {X : Type 0} (view : X → Cells) (result : Result X PqFault) (done own : Cells) → HasRows before plans group own → GivesMeant view result (cells_then done (rows_widened plans own))
       → Finds view result (AddsRows done (GroupMeans before plans group))
   own_added view result done own share h = finds_given view result (cells_then done (rows_widened plans own)) (AddsRows done (GroupMeans before plans group)) sound never h
     where

@@ -9,7 +9,7 @@ use Rattle.dk_pqmodel.specs.Shape.{Fields, Leaf, flag, int32, int64, chars}
 use Rattle.dk_pqmodel.specs.Datum.{Value, Cells, Column}
 use Rattle.dk_pqmodel.specs.Footer.{Chunk, RowGroup, Footer, is_new_each}
 use Rattle.dk_pqmodel.specs.FooterBytes.{HasFooter}
-use Rattle.dk_pqmodel.specs.FileMeans.{FileMeans, HasTriples, HasColumn, HasColumns, AreShares, columns_of}
+use Rattle.dk_pqmodel.specs.FileMeans.{FileMeans, HasTriples, HasColumn, HasColumns, HaveRows, columns_of}
 use Rattle.dk_pqmodel.specs.FilePages.{ColumnAt, HoldValues, InRuns, FromDictionary}
 use Rattle.dk_pqmodel.specs.Laid.{Plans, laid, first_misfit}
 use Rattle.dk_pqmodel.specs.RowView.{rows_of}
@@ -26,7 +26,7 @@ use Rattle.dk_pages.proofs.DictionaryCodes.{dictionary_codes}
 use Rattle.dk_pages.proofs.PageSpellings.{page_only}
 use Rattle.dk_pqread.specs.ChunkMeaning.{EntriesHold, DataFrom}
 use Rattle.dk_pqread.specs.Faults.{columns_read}
-use Rattle.dk_pqread.specs.Gives.{Fails, Gives}
+use Rattle.dk_levels.specs.Answers.{FailsMeant, GivesMeant}
 use Rattle.dk_pqread.specs.PageMeaning.{PageHolds, is_data}
 use Rattle.dk_pqread.specs.RowsMeaning.{Reads}
 use Rattle.dk_pqread.specs.Scans.{chunk_at, codec_of, codec_in, first_compressed, is_value_code, is_read, is_level_code, unread_code, unread_from, unread_in, values_in, first_place, code_in, first_unread}
@@ -160,7 +160,7 @@ module _ (before : List ℕ) (column : ColumnAt) where
     chunk_plain = rw has.plain refl
 
     chunk_unread : unread_in before column chunk ≡ None
-    chunk_unread = by_first (length before) (chunk_means before column chunk triples has)
+    chunk_unread = by_count chunk.values refl
       where
         by_first : (most : ℕ) → ReadAs before column chunk triples → unread_from most before column (first_place chunk) chunk.values ≡ None
         by_first most (inl d) = data_unread None most (first_place chunk) chunk.values triples d
@@ -175,6 +175,14 @@ module _ (before : List ℕ) (column : ColumnAt) where
                   ap (λ k. unread_from most before column page.next (chunk.values - values_in k page.values)) holds.is
                   ∙ ap (unread_from most before column page.next) (minus_zero chunk.values) ∙ data_unread (Some entries) most page.next chunk.values triples d;
             })
+
+        nothing : (most : ℕ) → chunk.values ≡ 0 → unread_from most before column (first_place chunk) chunk.values ≡ None
+        nothing zero e = refl
+        nothing (suc most) e = unread_step most (first_place chunk) chunk.values (λ some. absurd (omega (arith, e, some)))
+
+        by_count : (n : ℕ) → chunk.values ≡ n → unread_in before column chunk ≡ None
+        by_count zero e = nothing (length before) e
+        by_count (suc n) e = by_first (length before) (chunk_means before column chunk (omega (arith, e)) triples has)
 
 -- ---- all columns of all groups
 
@@ -225,7 +233,7 @@ module _ (before : List ℕ) where
   all_unread groups (c ∷ cs) h =
       ap (λ o. first_of_two (option_map (λ code. (c.path, code)) o) (first_unread before cs groups)) (column_unread groups c (first_has groups c cs h)) ∙ all_unread groups cs (later_have groups c cs h)
 
-  groups_have : (plans : Plans) (groups : List RowGroup) (shares : List Cells) → All HasDistinctPaths groups → AreShares before plans groups shares → EachHasAll before groups (columns_of plans 0 0)
+  groups_have : (plans : Plans) (groups : List RowGroup) (shares : List Cells) → All HasDistinctPaths groups → HaveRows before plans groups shares → EachHasAll before groups (columns_of plans 0 0)
   groups_have plans [] shares new held = tt
   groups_have plans (g ∷ gs) [] new held = absurd held
   groups_have plans (g ∷ gs) (share ∷ shares) new held =
@@ -261,6 +269,6 @@ never_refused wanted bytes rows m fault h = by_fault fault h
 
 -- what is read is what the file means
 pub rows_only : (wanted : Fields) (bytes : List ℕ) (result : Result (Vec Row Global) PqFault) → Reads wanted bytes result → (rows : Cells) → FileMeans wanted bytes rows
-    → Gives (λ (v : Vec Row Global). rows_of v.items) result (Some rows)
+    → GivesMeant (λ (v : Vec Row Global). rows_of v.items) result (Some rows)
 rows_only wanted bytes (Ok v) h rows m = ap Some (one_list wanted bytes rows (rows_of v.items) m h)
-rows_only wanted bytes (Err fault) h rows m = subst (λ f. Fails f (Some rows)) (sym (never_refused wanted bytes rows m fault h)) tt
+rows_only wanted bytes (Err fault) h rows m = subst (λ f. FailsMeant f (Some rows)) (sym (never_refused wanted bytes rows m fault h)) tt

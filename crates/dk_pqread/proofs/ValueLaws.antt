@@ -9,7 +9,7 @@ use Rattle.dk_pqmodel.specs.Shape.{Leaf, flag, int32, int64, chars}
 use Rattle.dk_pqmodel.specs.Datum as cell
 use Rattle.dk_pqmodel.specs.Datum.{Value}
 use Rattle.dk_pqmodel.specs.Footer.{each_of}
-use Rattle.dk_pqmodel.specs.FilePages.{ColumnAt, InPlain, InRuns, ByIndices, AreAtIndices, FromDictionary, HoldValues}
+use Rattle.dk_pqmodel.specs.FilePages.{ColumnAt, InPlain, InRuns, BehindWidth, ByIndices, AreAtIndices, FromDictionary, HoldValues}
 use Rattle.dk_pqread.specs.Meanings.{HoldRuns}
 use Rattle.dk_pqread.specs.Values.{plains_at, flag_at}
 use Rattle.dk_pqread.proofs.PartLaws.{some_is, sized_given}
@@ -154,9 +154,8 @@ pub record AtPlaces (dictionary : List Value) (bytes : List ℕ) (count : ℕ) (
   pub held : HoldRuns width count rest indices
   pub picked : each_of (λ index. slice_get dictionary index) indices ≡ Some values
 
-pub at_places : (dictionary values : List Value) (bytes : List ℕ) → 0 < length values → ByIndices dictionary values bytes → AtPlaces dictionary bytes (length values) values
-at_places dictionary values bytes some (inl none) = absurd (omega (arith, some, ap length none))
-at_places dictionary values bytes some (inr h) =
+pub at_places : (dictionary values : List Value) (bytes : List ℕ) → BehindWidth dictionary values bytes → AtPlaces dictionary bytes (length values) values
+at_places dictionary values bytes h =
     let indices = h.3 in
     let count : length indices ≡ length values = sym (length-map indices (λ index. slice_get dictionary index)) ∙ ap length h.7 ∙ length-map values Some in
     record {
@@ -179,9 +178,10 @@ places_once dictionary bytes count a b first second =
     some_is a b (sym first.picked ∙ ap (each_of (λ index. slice_get dictionary index)) indices ∙ second.picked)
 
 by_indices_once : (dictionary : List Value) (bytes : List ℕ) (a b : List Value) → length a ≡ length b → ByIndices dictionary a bytes → ByIndices dictionary b bytes → a ≡ b
-by_indices_once dictionary bytes [] b len first second = no_values [] b len refl
-by_indices_once dictionary bytes (v ∷ a) b len first second =
-    places_once dictionary bytes (length b) (v ∷ a) b (subst (λ n. AtPlaces dictionary bytes n (v ∷ a)) len (at_places dictionary (v ∷ a) bytes (omega arith) first)) (at_places dictionary b bytes (omega (arith, len)) second)
+by_indices_once dictionary bytes a b len (inl first) second = no_values a b len first.0
+by_indices_once dictionary bytes a b len (inr first) (inl second) = sym (no_values b a (sym len) second.0)
+by_indices_once dictionary bytes a b len (inr first) (inr second) =
+    places_once dictionary bytes (length b) a b (subst (λ n. AtPlaces dictionary bytes n a) len (at_places dictionary a bytes first)) (at_places dictionary b bytes second)
 
 from_dictionary_once : (kind : Leaf) (dictionary : Option (List Value)) (bytes : List ℕ) (a b : List Value) → length a ≡ length b → FromDictionary kind dictionary a bytes → FromDictionary kind dictionary b bytes → a ≡ b
 from_dictionary_once flag dictionary bytes a b len first second = absurd first

@@ -1,5 +1,5 @@
 -- Values of each encoding are found, and only they.
-use Rattle.std.proofs.Common.{◌≡◌, ℕ, ◌+◌, ◌*◌, ◌≤◌, inr, ℤ, Option, Some, None, Result, slice_get, List, Vec, Global, ◌∷◌, ◌++◌, length, map, take, refl, sym, ap, subst, ◌∙◌, arith}
+use Rattle.std.proofs.Common.{◌≡◌, ℕ, ◌+◌, ◌*◌, ◌≤◌, ◌<◌, inl, inr, ℤ, Option, Some, None, Result, slice_get, List, Vec, Global, [], ◌∷◌, ◌++◌, length, map, take, refl, sym, ap, subst, ◌∙◌, arith}
 use Rattle.std.proofs.lemmas.List.{length-append, length-map}
 use Rattle.std.proofs.lemmas.Bool.{le-leb}
 use Rattle.dk_grammar.specs.Plain.{Plain, plain_values, bit_of}
@@ -15,7 +15,7 @@ use Rattle.dk_pqmodel.specs.Footer.{each_of}
 use Rattle.dk_pqmodel.specs.FilePages.{ColumnAt, ArePlainOf, InPlain, InRuns, AreAtIndices, ByIndices, FromDictionary, HoldValues}
 use Rattle.dk_pqmodel.specs.declared.fault.PqFault.{PqFault}
 use Rattle.dk_pages.specs.Split.{sized}
-use Rattle.dk_pqread.specs.Gives.{Fails, Gives}
+use Rattle.dk_levels.specs.Answers.{FailsMeant, GivesMeant}
 use Rattle.dk_pqread.specs.Meanings.{HoldRuns, Refuses, Finds}
 use Rattle.dk_pqread.specs.Values.{bits_in, flag_of, flags_at, plains_at, flag_at}
 use Rattle.dk_pqread.proofs.Bits.{is_one, flags_stand, flags_found}
@@ -46,7 +46,7 @@ too_many_flags count bytes none values m =
     let some : flags_at count bytes ≡ Some (map flag_of (take count (bits_in bytes))) = rw (le-leb count (8 * length bytes) enough) refl in
     none_is_not_some _ (sym none ∙ some)
 
-pub plain_flags_found : {X : Type 0} (view : X → List Value) (result : Result X PqFault) (count : ℕ) (bytes : List ℕ) → AreBytes bytes → Gives view result (flags_at count bytes) → Finds view result (ArePlainly flag count bytes)
+pub plain_flags_found : {X : Type 0} (view : X → List Value) (result : Result X PqFault) (count : ℕ) (bytes : List ℕ) → AreBytes bytes → GivesMeant view result (flags_at count bytes) → Finds view result (ArePlainly flag count bytes)
 plain_flags_found view result count bytes small h =
     finds_given view result (flags_at count bytes) (ArePlainly flag count bytes) (λ values e. flags_stand count bytes values small e) (too_many_flags count bytes) h
 
@@ -61,7 +61,7 @@ plains_stand kind count bytes over values other small h =
     let found = plains_found kind count bytes over values small h in
     (found.count, as_in_plain kind values bytes over found.ps other found.whole found.are)
 
-pub plains_refused : (kind : Leaf) (count : ℕ) (bytes : List ℕ) (fault : PqFault) → (kind ≡ flag → ⊥) → Fails fault (plains_at kind count bytes) → Refuses fault (ArePlainly kind count bytes)
+pub plains_refused : (kind : Leaf) (count : ℕ) (bytes : List ℕ) (fault : PqFault) → (kind ≡ flag → ⊥) → FailsMeant fault (plains_at kind count bytes) → Refuses fault (ArePlainly kind count bytes)
 plains_refused kind count bytes fault other h =
     fails_refuses fault (plains_at kind count bytes) (ArePlainly kind count bytes)
     (λ none values m.
@@ -108,7 +108,7 @@ module _ (bytes : List ℕ) (count : ℕ) where
           let same : bits ≡ b.0 = runs_once 1 count runs bits b.0 held b.1 in
           none_is_not_some values (sym none ∙ ap (each_of flag_at) same ∙ b.2)
 
-      pub flag_runs_found : {X : Type 0} (view : X → List Value) (result : Result X PqFault) → AreBytes bytes → Gives view result (each_of flag_at bits) → Finds view result (AreInRuns flag count bytes)
+      pub flag_runs_found : {X : Type 0} (view : X → List Value) (result : Result X PqFault) → AreBytes bytes → GivesMeant view result (each_of flag_at bits) → Finds view result (AreInRuns flag count bytes)
       flag_runs_found view result small h = finds_given view result (each_of flag_at bits) (AreInRuns flag count bytes) (flags_of_bits small) other_bits h
 
 -- ---- places in a dictionary
@@ -129,44 +129,65 @@ as_indices int64 entries values bytes h = h
 as_indices chars entries values bytes h = h
 
 module _ (kind : Leaf) (other : kind ≡ flag → ⊥) (entries : List Value) (bytes : List ℕ) (count : ℕ) where
-  module _ (some : count ≡ 0 → ⊥) where
+  module _ (empty : bytes ≡ []) where
+    pub nothing_there : count ≡ 0 → AreFromDictionary kind (Some entries) count bytes []
+    nothing_there none = (sym none, as_dictionary kind entries [] bytes other (inl (refl, empty)))
+
+    pub byte_lacks : (count ≡ 0 → ⊥) → (values : List Value) → AreFromDictionary kind (Some entries) count bytes values → ⊥
+    byte_lacks some values m = by_form (as_indices kind entries values bytes m.1)
+      where
+        by_form : ByIndices entries values bytes → ⊥
+        by_form (inl none) = some (sym m.0 ∙ ap length none.0)
+        by_form (inr h) = (let never : [] ≡ h.0 ∷ (h.1 ++ h.2) = sym empty ∙ h.5 in cc)
+
+  module _ (width : ℕ) (rest : List ℕ) (whole : bytes ≡ width ∷ rest) where
+    abbrev Indices : List Value → Type 0
+    Indices values = (indices : List ℕ) × (HoldRuns width count rest indices) × (each_of (λ index. slice_get entries index) indices ≡ Some values)
+
     at : (values : List Value) → AreFromDictionary kind (Some entries) count bytes values → AtPlaces entries bytes count values
-    at values m = subst (λ n. AtPlaces entries bytes n values) m.0 (at_places entries values bytes (omega (arith, m.0, some)) (as_indices kind entries values bytes m.1))
+    at values m = by_form (as_indices kind entries values bytes m.1)
+      where
+        by_form : ByIndices entries values bytes → AtPlaces entries bytes count values
+        by_form (inl none) = (let never : [] ≡ width ∷ rest = sym none.1 ∙ whole in cc)
+        by_form (inr h) = subst (λ n. AtPlaces entries bytes n values) m.0 (at_places entries values bytes h)
 
-    module _ (width : ℕ) (rest : List ℕ) (whole : bytes ≡ width ∷ rest) where
-      abbrev Indices : List Value → Type 0
-      Indices values = (indices : List ℕ) × (HoldRuns width count rest indices) × (each_of (λ index. slice_get entries index) indices ≡ Some values)
+    indices_held : (values : List Value) → AreFromDictionary kind (Some entries) count bytes values → Indices values
+    indices_held values m =
+        let a = at values m in
+        let both : a.width ∷ a.rest ≡ width ∷ rest = sym a.whole ∙ whole in
+        let widths : a.width ≡ width = cc in
+        let rests : a.rest ≡ rest = cc in
+        (a.indices, subst (λ r. HoldRuns width count r a.indices) rests (subst (λ w. HoldRuns w count a.rest a.indices) widths a.held), a.picked)
 
-      indices_held : (values : List Value) → AreFromDictionary kind (Some entries) count bytes values → Indices values
-      indices_held values m =
-          let a = at values m in
-          let both : a.width ∷ a.rest ≡ width ∷ rest = sym a.whole ∙ whole in
-          let widths : a.width ≡ width = cc in
-          let rests : a.rest ≡ rest = cc in
-          (a.indices, subst (λ r. HoldRuns width count r a.indices) rests (subst (λ w. HoldRuns w count a.rest a.indices) widths a.held), a.picked)
+    pub too_wide : 32 < width → (values : List Value) → AreFromDictionary kind (Some entries) count bytes values → ⊥
+    too_wide wide values m =
+        let a = at values m in
+        let both : a.width ∷ a.rest ≡ width ∷ rest = sym a.whole ∙ whole in
+        let widths : a.width ≡ width = cc in
+        omega (arith, wide, widths, a.narrow)
 
-      pub indices_refused : (fault : PqFault) → Refuses fault (HoldRuns width count rest) → Refuses fault (AreFromDictionary kind (Some entries) count bytes)
-      indices_refused fault h =
-          refuses_by fault (HoldRuns width count rest) (AreFromDictionary kind (Some entries) count bytes) (λ values m. (let i = indices_held values m in (i.0, i.1))) h
+    pub indices_refused : (fault : PqFault) → Refuses fault (HoldRuns width count rest) → Refuses fault (AreFromDictionary kind (Some entries) count bytes)
+    indices_refused fault h =
+        refuses_by fault (HoldRuns width count rest) (AreFromDictionary kind (Some entries) count bytes) (λ values m. (let i = indices_held values m in (i.0, i.1))) h
 
-      module _ (indices : List ℕ) (held : HoldRuns width count rest indices) where
-        entries_at : width ≤ 32 → (values : List Value) → each_of (λ index. slice_get entries index) indices ≡ Some values → AreFromDictionary kind (Some entries) count bytes values
-        entries_at narrow values e =
-            let are : AreAtIndices entries indices values = picked_found entries indices values e in
-            let indices_long : length indices ≡ count = first_length width count indices held.runs held.first in
-            let long : length values ≡ length indices = sym (length-map values Some) ∙ sym (ap length are) ∙ length-map indices (λ index. slice_get entries index) in
-            let first : AreFirst width (length indices) indices held.runs = subst (λ n. AreFirst width n indices held.runs) (sym indices_long) held.first in
-            (long ∙ indices_long, as_dictionary kind entries values bytes other (inr (width, held.runs, held.over, indices, narrow, whole ∙ ap (λ r. width ∷ r) held.whole, first, are)))
+    module _ (indices : List ℕ) (held : HoldRuns width count rest indices) where
+      entries_at : width ≤ 32 → (values : List Value) → each_of (λ index. slice_get entries index) indices ≡ Some values → AreFromDictionary kind (Some entries) count bytes values
+      entries_at narrow values e =
+          let are : AreAtIndices entries indices values = picked_found entries indices values e in
+          let indices_long : length indices ≡ count = first_length width count indices held.runs held.first in
+          let long : length values ≡ length indices = sym (length-map values Some) ∙ sym (ap length are) ∙ length-map indices (λ index. slice_get entries index) in
+          let first : AreFirst width (length indices) indices held.runs = subst (λ n. AreFirst width n indices held.runs) (sym indices_long) held.first in
+          (long ∙ indices_long, as_dictionary kind entries values bytes other (inr (width, held.runs, held.over, indices, narrow, whole ∙ ap (λ r. width ∷ r) held.whole, first, are)))
 
-        other_indices : each_of (λ index. slice_get entries index) indices ≡ None → (values : List Value) → AreFromDictionary kind (Some entries) count bytes values → ⊥
-        other_indices none values m =
-            let i = indices_held values m in
-            let same : indices ≡ i.0 = runs_once width count rest indices i.0 held i.1 in
-            none_is_not_some values (sym none ∙ ap (each_of (λ index. slice_get entries index)) same ∙ i.2)
+      other_indices : each_of (λ index. slice_get entries index) indices ≡ None → (values : List Value) → AreFromDictionary kind (Some entries) count bytes values → ⊥
+      other_indices none values m =
+          let i = indices_held values m in
+          let same : indices ≡ i.0 = runs_once width count rest indices i.0 held i.1 in
+          none_is_not_some values (sym none ∙ ap (each_of (λ index. slice_get entries index)) same ∙ i.2)
 
-        pub indices_found : {X : Type 0} (view : X → List Value) (result : Result X PqFault) → width ≤ 32 → Gives view result (each_of (λ index. slice_get entries index) indices)
-            → Finds view result (AreFromDictionary kind (Some entries) count bytes)
-        indices_found view result narrow h = finds_given view result (each_of (λ index. slice_get entries index) indices) (AreFromDictionary kind (Some entries) count bytes) (entries_at narrow) other_indices h
+      pub indices_found : {X : Type 0} (view : X → List Value) (result : Result X PqFault) → width ≤ 32 → GivesMeant view result (each_of (λ index. slice_get entries index) indices)
+          → Finds view result (AreFromDictionary kind (Some entries) count bytes)
+      indices_found view result narrow h = finds_given view result (each_of (λ index. slice_get entries index) indices) (AreFromDictionary kind (Some entries) count bytes) (entries_at narrow) other_indices h
 
 -- ---- by the code of the encoding
 

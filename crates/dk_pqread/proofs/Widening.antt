@@ -9,7 +9,7 @@ use Rattle.dk_pqmodel.specs.declared.row.Row.{Row}
 use Rattle.dk_pqmodel.specs.declared.row.Cell.{Cell}
 use Rattle.dk_pqmodel.specs.declared.row.Cell as cell
 use Rattle.dk_pqmodel.specs.declared.fault.PqFault.{PqFault}
-use Rattle.dk_pqread.specs.Gives.{Fails}
+use Rattle.dk_levels.specs.Answers.{FailsMeant}
 use Rattle.dk_pqread.specs.Cells.{cells_then, first_cell, is_atom, key_and_value, taken_for, value_for}
 use Rattle.dk_pqread.specs.PlanView.{path_of, plan_of, plans_of}
 use Rattle.dk_pqread.specs.declared.plan.Plan as code
@@ -54,7 +54,7 @@ module _ (turn : Datum → Option Datum) (done : List Cell) (c : Cell) (rest : C
       ap (λ x. cells_then (cells_of x) (turned_all turn rest)) pushed ∙ cells_then_push done w (turned_all turn rest)
       ∙ ap (cells_then (cells_of done)) (sym (rw e (both_some (datum_of w) (turned_all turn rest)))) ∙ left
 
-  pub turned_fails : (fault : PqFault) → Fails fault (turn (datum_of c)) → Fails fault all
+  pub turned_fails : (fault : PqFault) → FailsMeant fault (turn (datum_of c)) → FailsMeant fault all
   turned_fails fault h = fails_same fault (turn (datum_of c)) all (λ e. sym left ∙ rw e refl) h
 
 -- ---- the cells of a group
@@ -92,7 +92,7 @@ module _ (plans : List code.Plan) (i : ℕ) (plan : code.Plan) (done : List Cell
       ap (λ x. cells_then (cells_of x) (others rest)) pushed ∙ cells_then_push done w (others rest)
       ∙ ap (cells_then (cells_of done)) (sym (next_is (is_missing (plan_of plan)) (widened (plan_of plan)) others cs (datum_of w) rest e)) ∙ opened
 
-  pub each_fails : (fault : PqFault) → Fails fault (taken_for (is_missing (plan_of plan)) (widened (plan_of plan)) cs) → Fails fault all
+  pub each_fails : (fault : PqFault) → FailsMeant fault (taken_for (is_missing (plan_of plan)) (widened (plan_of plan)) cs) → FailsMeant fault all
   each_fails fault bad =
       fails_same fault (taken_for (is_missing (plan_of plan)) (widened (plan_of plan)) cs) all
       (λ e. sym opened ∙ ap (cells_then (cells_of done)) (next_none (is_missing (plan_of plan)) (widened (plan_of plan)) (widened_each (plans_of (drop (i + 1) plans))) cs e)) bad
@@ -112,7 +112,7 @@ pub entry_is : (turn : Datum → Option Datum) (d key w : Datum) (own : Option D
     → pair_of turn d ≡ Some (group (one_cell key (one_cell w no_cells)))
 entry_is turn d key w own e f = pair_parts turn d ∙ rw (e, f) refl
 
-pub entry_fails : (turn : Datum → Option Datum) (d key : Datum) (own : Option Datum) (fault : PqFault) → key_and_value d ≡ Some (key, own) → Fails fault (value_for turn own) → Fails fault (pair_of turn d)
+pub entry_fails : (turn : Datum → Option Datum) (d key : Datum) (own : Option Datum) (fault : PqFault) → key_and_value d ≡ Some (key, own) → FailsMeant fault (value_for turn own) → FailsMeant fault (pair_of turn d)
 entry_fails turn d key own fault e bad = fails_same fault (value_for turn own) (pair_of turn d) (λ f. pair_parts turn d ∙ rw (e, f) refl) bad
 
 pub no_entry : (turn : Datum → Option Datum) (d : Datum) → key_and_value d ≡ None → pair_of turn d ≡ None
@@ -183,5 +183,5 @@ module _ (plans : Plans) (done : List Row) (row : Row) (rest : Cells) (all : Opt
       ap (λ x. cells_then (rows_of x) (rows_widened plans rest)) pushed ∙ rows_then_push done w (rows_widened plans rest)
       ∙ ap (cells_then (rows_of done)) (sym (rw e (both_some (row_of w) (rows_widened plans rest)))) ∙ left
 
-  pub row_fails : (fault : PqFault) → Fails fault (widened_each plans (cells_of row.cells.items)) → Fails fault all
+  pub row_fails : (fault : PqFault) → FailsMeant fault (widened_each plans (cells_of row.cells.items)) → FailsMeant fault all
   row_fails fault h = fails_same fault (widened_each plans (cells_of row.cells.items)) all (λ e. sym left ∙ rw e refl) h

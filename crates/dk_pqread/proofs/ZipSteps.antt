@@ -3,7 +3,7 @@ use Rattle.std.proofs.Common.{◌≡◌, ℕ, zero, suc, ◌+◌, Option, Some, 
 use Rattle.std.specs.Option.{option_map}
 use Rattle.dk_pqmodel.specs.Datum.{Value, Entry, Column}
 use Rattle.dk_pqmodel.specs.declared.fault.PqFault.{PqFault}
-use Rattle.dk_pqread.specs.Gives.{Fails}
+use Rattle.dk_levels.specs.Answers.{FailsMeant}
 use Rattle.dk_pqread.specs.Meanings.{one_triple, zipped, triples_then}
 use Rattle.dk_pqread.proofs.Failing.{fails_same}
 
@@ -35,7 +35,7 @@ module _ (rep def : ℕ) (rs ds : List ℕ) (i : ℕ) (done : Column) (vs : List
         ∙ sym (one_behind done e (zipped rep def (drop (i + 1) rs) (drop (i + 1) ds) rest))
         ∙ sym (ap (λ o. triples_then done (option_and_then (λ (x : Next). option_map (λ es. x.0 ∷ es) (zipped rep def (drop (i + 1) rs) (drop (i + 1) ds) x.1)) o)) h) ∙ opened
 
-    pub triple_fails : (fault : PqFault) → Fails fault (one_triple rep def r d vs) → Fails fault whole
+    pub triple_fails : (fault : PqFault) → FailsMeant fault (one_triple rep def r d vs) → FailsMeant fault whole
     triple_fails fault h =
         fails_same fault (one_triple rep def r d vs) whole
         (λ e. sym opened ∙ ap (λ o. triples_then done (option_and_then (λ (x : Next). option_map (λ es. x.0 ∷ es) (zipped rep def (drop (i + 1) rs) (drop (i + 1) ds) x.1)) o)) e) h

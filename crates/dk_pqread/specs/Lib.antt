@@ -1,10 +1,10 @@
 pub mod Cells
 pub mod ChunkMeaning
 pub mod ColumnView
+pub mod Counts
 pub mod Depth
 pub mod Examining
 pub mod Faults
-pub mod Gives
 pub mod Inner
 pub mod Laws
 pub mod Lays

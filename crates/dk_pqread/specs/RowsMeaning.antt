@@ -5,7 +5,7 @@ use Rattle.dk_pqmodel.specs.Shape.{Fields}
 use Rattle.dk_pqmodel.specs.Datum.{group, Cells, no_cells, one_cell, appended}
 use Rattle.dk_pqmodel.specs.Footer.{RowGroup}
 use Rattle.dk_pqmodel.specs.FooterBytes.{IsFramed}
-use Rattle.dk_pqmodel.specs.FileMeans.{IsShare, AreShares, all_rows, FileMeans}
+use Rattle.dk_pqmodel.specs.FileMeans.{HasRows, HaveRows, all_rows, FileMeans}
 use Rattle.dk_pqmodel.specs.Laid.{Plans, rows_widened}
 use Rattle.dk_pqmodel.specs.RowView.{rows_of}
 use Rattle.dk_pqmodel.specs.declared.row.Row.{Row}
@@ -21,13 +21,13 @@ empty_rows (suc n) = one_cell (group no_cells) (empty_rows n)
 -- The wanted rows of a group: those that are made of its own.
 pub record GroupMeans (before : List ℕ) (plans : Plans) (group : RowGroup) (rows : Cells) : Type 0 where
   pub own : Cells
-  pub share : IsShare before plans group own
+  pub share : HasRows before plans group own
   pub widened : rows_widened plans own ≡ Some rows
 
 -- The wanted rows of groups, those of one group behind those of another.
 pub record GroupsMean (before : List ℕ) (plans : Plans) (groups : List RowGroup) (rows : Cells) : Type 0 where
   pub shares : List Cells
-  pub held : AreShares before plans groups shares
+  pub held : HaveRows before plans groups shares
   pub widened : rows_widened plans (all_rows shares) ≡ Some rows
 
 -- rows of the sort, behind those before

@@ -35,12 +35,12 @@ pub(crate) fn read_chunk(
     if chunk.physical != physical_type(column.kind) {
         return Err(PqFault::Broken);
     }
+    if chunk.values == 0 {
+        return Ok(Vec::new(alloc));
+    }
     let place = first_place(chunk) as usize;
     if place > before.len() {
         return Err(PqFault::Broken);
-    }
-    if chunk.values == 0 {
-        return Ok(Vec::new(alloc));
     }
     let first = match next_page(before, place) {
         Ok(first) => first,

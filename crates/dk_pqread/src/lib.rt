@@ -3,9 +3,8 @@
 
 mod bytes;
 mod chunk;
-#[cfg(test)]
-mod chunk_tests;
 mod column;
+mod counts;
 mod cut;
 mod dictionary;
 mod examine;
@@ -19,13 +18,9 @@ mod page;
 mod plain;
 mod plan;
 mod read;
-#[cfg(test)]
-mod row_tests;
 mod rows;
 mod runs;
 mod scan;
-#[cfg(test)]
-mod tests;
 mod tree;
 mod values;
 mod widen;

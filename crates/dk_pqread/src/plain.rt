@@ -2,7 +2,7 @@
 
 ghost use Rattle.std.specs.Prelude.{◌≡◌, ◌*◌, ◌++◌, ◌≤◌, OnOk, length, map, take};
 ghost use Rattle.dk_grammar.specs.Digits.{digits_of};
-ghost use Rattle.dk_pqread.specs.Gives.{Gives};
+ghost use Rattle.dk_levels.specs.Answers.{GivesMeant};
 ghost use Rattle.dk_pqmodel.specs.ColumnView.{value_of};
 ghost use Rattle.dk_pqmodel.specs.Shape.{chars as shape_chars};
 ghost use Rattle.dk_pqread.specs.LeafView.{leaf_of};
@@ -21,7 +21,7 @@ pub(crate) fn plain_values<'a>(
     bytes: &'a [u8],
     count: usize,
 ) -> Result<(Vec<Value>, &'a [u8]), PqFault>
-    ensures { Gives (λ x. (map value_of x.0.items, x.1.now)) result (plains_at (leaf_of kind) count bytes.now) }
+    ensures { GivesMeant (λ x. (map value_of x.0.items, x.1.now)) result (plains_at (leaf_of kind) count bytes.now) }
 {
     let mut values = Vec::with_capacity(alloc, room(bytes, count))?;
     let mut rest = bytes;
@@ -44,7 +44,7 @@ fn room(bytes: &[u8], count: usize) -> usize
 
 /// The number or text at the front, and the bytes behind it.
 fn plain_value<'a>(alloc: Global, kind: Leaf, bytes: &'a [u8]) -> Result<(Value, &'a [u8]), PqFault>
-    ensures { Gives (λ x. (value_of x.0, x.1.now)) result (plain_at (leaf_of kind) bytes.now) }
+    ensures { GivesMeant (λ x. (value_of x.0, x.1.now)) result (plain_at (leaf_of kind) bytes.now) }
 {
     match kind {
         Leaf::Flag => Err(PqFault::Broken),
@@ -67,7 +67,7 @@ fn plain_value<'a>(alloc: Global, kind: Leaf, bytes: &'a [u8]) -> Result<(Value,
 }
 
 fn plain_text<'a>(alloc: Global, bytes: &'a [u8]) -> Result<(Value, &'a [u8]), PqFault>
-    ensures { Gives (λ x. (value_of x.0, x.1.now)) result (plain_at shape_chars bytes.now) }
+    ensures { GivesMeant (λ x. (value_of x.0, x.1.now)) result (plain_at shape_chars bytes.now) }
 {
     let Some((front, rest)) = sized(bytes) else {
         return Err(PqFault::Broken);
@@ -80,7 +80,7 @@ fn plain_text<'a>(alloc: Global, bytes: &'a [u8]) -> Result<(Value, &'a [u8]), P
 
 /// So many flags, bit by bit.
 pub(crate) fn plain_flags(alloc: Global, bytes: &[u8], count: usize) -> Result<Vec<Value>, PqFault>
-    ensures { Gives (λ v. map value_of v.items) result (flags_at count bytes.now) }
+    ensures { GivesMeant (λ v. map value_of v.items) result (flags_at count bytes.now) }
 {
     if count > bytes.len().saturating_mul(8) {
         return Err(PqFault::Broken);

@@ -5,15 +5,17 @@ ghost use Rattle.dk_pqmodel.specs.Datum.{Cells};
 ghost use Rattle.dk_pqmodel.specs.FileMeans.{FileMeans};
 ghost use Rattle.dk_pqmodel.specs.RowView.{rows_of};
 ghost use Rattle.dk_pqmodel.specs.SchemaView.{fields_in};
-ghost use Rattle.dk_pqread.specs.Gives.{Gives};
+ghost use Rattle.dk_levels.specs.Answers.{GivesMeant};
 ghost use Rattle.dk_pqread.specs.RowsMeaning.{Reads};
 
+use crate::counts::counts_agree;
 use crate::examine::{Examined, before_footer, examine};
 use crate::rows::read_groups;
 use dk_pqmodel::{PqFault, Row, Schema};
 use std::alloc::Global;
 
-/// The rows that a Parquet file holds of the wanted fields (Apache Parquet).
+/// The rows that a Parquet file holds of the wanted fields (Apache Parquet, "File format", "Nested Types", "Data Pages", "Encodings";
+/// parquet.thrift): of each row group as many as it says, one group behind another, with a cell for each wanted field in its order.
 ///
 /// Fields are found by their names, and one that the file lacks is null in each row. The first cause that applies is answered:
 /// `NotParquet` where the magic or the footer's length doesn't fit, `Shape` where a wanted leaf has another type or structure in the
@@ -23,7 +25,7 @@ use std::alloc::Global;
 pub fn read_rows(alloc: Global, bytes: &[u8], wanted: &Schema) -> Result<Vec<Row>, PqFault>
     ensures reads { Reads (fields_in wanted.now) bytes.now result }
     // Where the file means some rows, these are answered, or memory was wanting.
-    ensures only { (rows : Cells) → FileMeans (fields_in wanted.now) bytes.now rows → Gives (λ v. rows_of v.items) result (Some rows) }
+    ensures only { (rows : Cells) → FileMeans (fields_in wanted.now) bytes.now rows → GivesMeant (λ v. rows_of v.items) result (Some rows) }
 {
     read_file(alloc, bytes, wanted)
 }
@@ -36,6 +38,9 @@ fn read_file(alloc: Global, bytes: &[u8], wanted: &Schema) -> Result<Vec<Row>, P
         plans,
         columns,
     } = examine(alloc, bytes, wanted)?;
+    if !counts_agree(&columns, &footer.groups, footer.rows) {
+        return Err(PqFault::Broken);
+    }
     let rows = read_groups(
         alloc,
         before_footer(bytes),

@@ -3,14 +3,14 @@
 ghost use Rattle.std.specs.Prelude.{◌≡◌, [], false, IfOk, IsTrue, All, map};
 ghost use Rattle.dk_levels.specs.Solid.{IsReadable};
 ghost use Rattle.dk_pqmeta.specs.View.{group_view};
-ghost use Rattle.dk_pqmodel.specs.FileMeans.{IsShare, columns_of};
+ghost use Rattle.dk_pqmodel.specs.FileMeans.{HasRows, columns_of};
 ghost use Rattle.dk_pqmodel.specs.Footer.{is_new_each};
 ghost use Rattle.dk_pqmodel.specs.Laid.{all_missing, cuts_of, rows_widened};
 ghost use Rattle.dk_pqmodel.specs.NodeView.{fields_of};
 ghost use Rattle.dk_pqmodel.specs.RowView.{rows_of};
 ghost use Rattle.dk_pqread.specs.Cells.{cells_then};
 ghost use Rattle.dk_pqread.specs.ColumnView.{column_at};
-ghost use Rattle.dk_pqread.specs.Gives.{Gives};
+ghost use Rattle.dk_levels.specs.Answers.{GivesMeant};
 ghost use Rattle.dk_pqread.specs.Meanings.{Finds};
 ghost use Rattle.dk_pqread.specs.PlanView.{plans_of};
 ghost use Rattle.dk_pqread.specs.RowsMeaning.{AddsRows, GroupMeans, GroupsMean, empty_rows};
@@ -81,7 +81,7 @@ fn own_rows(
     requires cut { fields_of nodes.now ≡ cuts_of (plans_of plans.now) }
     requires readable { all_missing (plans_of plans.now) ≡ false → IsReadable (cuts_of (plans_of plans.now)) }
     requires distinct { IsTrue (is_new_each [] (group_view group.now).columns) }
-    ensures { Finds (λ v. rows_of v.items) result (IsShare before.now (plans_of plans.now) (group_view group.now)) }
+    ensures { Finds (λ v. rows_of v.items) result (HasRows before.now (plans_of plans.now) (group_view group.now)) }
 {
     if all_missing(plans) {
         return Ok(empty_rows(alloc, group.rows)?);
@@ -95,11 +95,12 @@ fn own_rows(
     }
 }
 
-/// So many rows without a cell: what a group has of none of its columns. They grow one by one, whatever count is claimed.
+/// So many rows without a cell: what a group has of none of its columns. Room is made for all at once, so that a count that has no room
+/// makes nothing grow.
 fn empty_rows(alloc: Global, count: u64) -> Result<Vec<Row>, AllocError>
     ensures { IfOk result (λ v. rows_of v.items ≡ empty_rows count) }
 {
-    let mut rows = Vec::new(alloc);
+    let mut rows = Vec::with_capacity(alloc, count as usize)?;
     for _ in 0..count {
         rows.push(Row {
             cells: Vec::new(alloc),
@@ -115,7 +116,7 @@ fn add_widened(
     plans: &[Plan],
     own: Vec<Row>,
 ) -> Result<(), PqFault>
-    ensures { Gives (λ _. rows_of rows.new.items) result (cells_then (rows_of rows.old.items) (rows_widened (plans_of plans.now) (rows_of own.items))) }
+    ensures { GivesMeant (λ _. rows_of rows.new.items) result (cells_then (rows_of rows.old.items) (rows_widened (plans_of plans.now) (rows_of own.items))) }
 {
     rows.reserve(own.len())?;
     for row in own {

@@ -1,7 +1,7 @@
 //! The values of a page, by their encoding.
 
 ghost use Rattle.std.specs.Prelude.{◌≡◌, IfOk, length, map, option_map, slice_get};
-ghost use Rattle.dk_pqread.specs.Gives.{Gives};
+ghost use Rattle.dk_levels.specs.Answers.{GivesMeant};
 ghost use Rattle.dk_pqmodel.specs.ColumnView.{value_of};
 ghost use Rattle.dk_pqmodel.specs.FilePages.{FromDictionary, HoldValues, InPlain, InRuns};
 ghost use Rattle.dk_pqmodel.specs.Footer.{each_of};
@@ -76,7 +76,7 @@ fn read_flag_runs(
 }
 
 fn flags_of(alloc: Global, bits: &[u32]) -> Result<Vec<Value>, PqFault>
-    ensures { Gives (λ v. map value_of v.items) result (each_of flag_at bits.now) }
+    ensures { GivesMeant (λ v. map value_of v.items) result (each_of flag_at bits.now) }
 {
     let mut flags = Vec::with_capacity(alloc, bits.len())?;
     for bit in bits {
@@ -88,7 +88,8 @@ fn flags_of(alloc: Global, bits: &[u32]) -> Result<Vec<Value>, PqFault>
     Ok(flags)
 }
 
-/// PLAIN_DICTIONARY and RLE_DICTIONARY: a byte with the width, and runs of places in the dictionary.
+/// PLAIN_DICTIONARY and RLE_DICTIONARY: a byte with the width, and runs of places in the dictionary. Where no value is meant, the byte
+/// may be left out.
 fn read_indices(
     alloc: Global,
     kind: Leaf,
@@ -105,10 +106,10 @@ fn read_indices(
     if kind == Leaf::Flag {
         return Err(PqFault::Broken);
     }
-    if count == 0 {
-        return Ok(Vec::new(alloc));
-    }
     let Some((width, runs)) = bytes.split_first() else {
+        if count == 0 {
+            return Ok(Vec::new(alloc));
+        }
         return Err(PqFault::Broken);
     };
     if *width > 32 {
@@ -120,7 +121,7 @@ fn read_indices(
 
 /// The entries at the places.
 fn pick(alloc: Global, entries: &[Value], indices: &[u32]) -> Result<Vec<Value>, PqFault>
-    ensures { Gives (λ v. map value_of v.items) result (each_of (λ index. slice_get (map value_of entries.now) index) indices.now) }
+    ensures { GivesMeant (λ v. map value_of v.items) result (each_of (λ index. slice_get (map value_of entries.now) index) indices.now) }
 {
     let mut values = Vec::with_capacity(alloc, indices.len())?;
     for index in indices {

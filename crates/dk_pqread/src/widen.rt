@@ -6,7 +6,7 @@ ghost use Rattle.dk_pqmodel.specs.Datum.{group, one_cell, no_cells};
 ghost use Rattle.dk_pqmodel.specs.Laid.{in_group, in_list, is_missing, pair_of, turned_all, widened, widened_each};
 ghost use Rattle.dk_pqmodel.specs.RowView.{cells_of, datum_of};
 ghost use Rattle.dk_pqread.specs.Cells.{first_cell, is_atom, key_and_value, taken_for, value_for};
-ghost use Rattle.dk_pqread.specs.Gives.{Gives};
+ghost use Rattle.dk_levels.specs.Answers.{GivesMeant};
 ghost use Rattle.dk_pqread.specs.PlanView.{plan_of, plans_of};
 
 use crate::plan::{Plan, is_missing};
@@ -18,7 +18,7 @@ use std::vec::IntoIter;
 /// The wanted cell. `Broken` comes exactly where a map in it has a null key.
 #[cycle(widen)]
 fn widen(plan: &Plan, alloc: Global, cell: Cell) -> Result<Cell, PqFault>
-    ensures { Gives datum_of result (widened (plan_of plan.now) (datum_of cell)) }
+    ensures { GivesMeant datum_of result (widened (plan_of plan.now) (datum_of cell)) }
 {
     match plan {
         Plan::Missing => Ok(Cell::Null),
@@ -31,7 +31,7 @@ fn widen(plan: &Plan, alloc: Global, cell: Cell) -> Result<Cell, PqFault>
 
 #[cycle(widen)]
 fn widen_group(plans: &[Plan], alloc: Global, cell: Cell) -> Result<Cell, PqFault>
-    ensures { Gives datum_of result (in_group (widened_each (plans_of plans.now)) (datum_of cell)) }
+    ensures { GivesMeant datum_of result (in_group (widened_each (plans_of plans.now)) (datum_of cell)) }
 {
     match cell {
         Cell::Group(cells) => Ok(Cell::Group(widen_each(plans, alloc, cells)?)),
@@ -41,7 +41,7 @@ fn widen_group(plans: &[Plan], alloc: Global, cell: Cell) -> Result<Cell, PqFaul
 
 #[cycle(widen)]
 fn widen_list(plan: &Plan, alloc: Global, cell: Cell) -> Result<Cell, PqFault>
-    ensures { Gives datum_of result (in_list (turned_all (widened (plan_of plan.now))) (datum_of cell)) }
+    ensures { GivesMeant datum_of result (in_list (turned_all (widened (plan_of plan.now))) (datum_of cell)) }
 {
     match cell {
         Cell::List(mut cells) => {
@@ -54,7 +54,7 @@ fn widen_list(plan: &Plan, alloc: Global, cell: Cell) -> Result<Cell, PqFault>
 
 #[cycle(widen)]
 fn widen_map(value: &Plan, alloc: Global, cell: Cell) -> Result<Cell, PqFault>
-    ensures { Gives datum_of result (in_list (turned_all (pair_of (widened (plan_of value.now)))) (datum_of cell)) }
+    ensures { GivesMeant datum_of result (in_list (turned_all (pair_of (widened (plan_of value.now)))) (datum_of cell)) }
 {
     match cell {
         Cell::List(mut cells) => {
@@ -72,7 +72,7 @@ pub(crate) fn widen_each(
     alloc: Global,
     cells: Vec<Cell>,
 ) -> Result<Vec<Cell>, PqFault>
-    ensures { Gives (λ v. cells_of v.items) result (widened_each (plans_of plans.now) (cells_of cells.items)) }
+    ensures { GivesMeant (λ v. cells_of v.items) result (widened_each (plans_of plans.now) (cells_of cells.items)) }
 {
     let mut own = cells.into_iter();
     let mut wide = Vec::with_capacity(alloc, plans.len())?;
@@ -85,7 +85,7 @@ pub(crate) fn widen_each(
 /// The wanted cell of a plan, out of the next cell that is read. It is null where nothing is read for it.
 #[cycle(widen)]
 fn widen_next(plan: &Plan, alloc: Global, own: &mut IntoIter<Cell>) -> Result<Cell, PqFault>
-    ensures { Gives (λ c. (datum_of c, cells_of (into_iter_items own.new))) result
+    ensures { GivesMeant (λ c. (datum_of c, cells_of (into_iter_items own.new))) result
         (taken_for (is_missing (plan_of plan.now)) (widened (plan_of plan.now)) (cells_of (into_iter_items own.old))) }
 {
     if is_missing(plan) {
@@ -100,7 +100,7 @@ fn widen_next(plan: &Plan, alloc: Global, own: &mut IntoIter<Cell>) -> Result<Ce
 /// The elements of a list, each in the place of the one that is read.
 #[cycle(widen)]
 fn widen_all(plan: &Plan, alloc: Global, cells: &mut [Cell]) -> Result<(), PqFault>
-    ensures { Gives (λ _. cells_of cells.new) result (turned_all (widened (plan_of plan.now)) (cells_of cells.old)) }
+    ensures { GivesMeant (λ _. cells_of cells.new) result (turned_all (widened (plan_of plan.now)) (cells_of cells.old)) }
 {
     for place in 0..cells.len() {
         let cell = take(cells, place);
@@ -112,7 +112,7 @@ fn widen_all(plan: &Plan, alloc: Global, cells: &mut [Cell]) -> Result<(), PqFau
 /// The entries of a map, each in the place of the one that is read.
 #[cycle(widen)]
 fn widen_entries(value: &Plan, alloc: Global, cells: &mut [Cell]) -> Result<(), PqFault>
-    ensures { Gives (λ _. cells_of cells.new) result (turned_all (pair_of (widened (plan_of value.now))) (cells_of cells.old)) }
+    ensures { GivesMeant (λ _. cells_of cells.new) result (turned_all (pair_of (widened (plan_of value.now))) (cells_of cells.old)) }
 {
     for place in 0..cells.len() {
         let cell = take(cells, place);
@@ -124,7 +124,7 @@ fn widen_entries(value: &Plan, alloc: Global, cells: &mut [Cell]) -> Result<(), 
 /// A key and a value. A null key is refused.
 #[cycle(widen)]
 fn widen_entry(value: &Plan, alloc: Global, cell: Cell) -> Result<Cell, PqFault>
-    ensures { Gives datum_of result (pair_of (widened (plan_of value.now)) (datum_of cell)) }
+    ensures { GivesMeant datum_of result (pair_of (widened (plan_of value.now)) (datum_of cell)) }
 {
     let Some((key, own)) = key_and_value(cell) else {
         return Err(PqFault::Broken);
@@ -136,7 +136,7 @@ fn widen_entry(value: &Plan, alloc: Global, cell: Cell) -> Result<Cell, PqFault>
 /// The value of an entry. It is null where the file has none.
 #[cycle(widen)]
 fn widen_value(value: &Plan, alloc: Global, own: Option<Cell>) -> Result<Cell, PqFault>
-    ensures { Gives datum_of result (value_for (widened (plan_of value.now)) (option_map datum_of own)) }
+    ensures { GivesMeant datum_of result (value_for (widened (plan_of value.now)) (option_map datum_of own)) }
 {
     match own {
         Some(cell) => widen(value, alloc, cell),

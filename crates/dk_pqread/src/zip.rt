@@ -1,7 +1,7 @@
 //! Triples of levels and values.
 
 ghost use Rattle.std.specs.Prelude.{◌≡◌, ◌<◌, MatchOption, Some, length, map, slice_get, vec_len};
-ghost use Rattle.dk_pqread.specs.Gives.{Gives};
+ghost use Rattle.dk_levels.specs.Answers.{GivesMeant};
 ghost use Rattle.dk_pqmodel.specs.ColumnView.{column_of, entry_of, value_of};
 ghost use Rattle.dk_pqread.specs.Meanings.{levels_of, one_triple, triples_then, zipped};
 ghost use Rattle.std.specs.Vec.Iter.{into_iter_items};
@@ -22,7 +22,7 @@ pub(crate) fn add_triples(
 ) -> Result<(), PqFault>
     requires reps { length (levels_of count repetitions.now) ≡ count }
     requires defs { length (levels_of count definitions.now) ≡ count }
-    ensures { Gives (λ _. column_of triples.new) result
+    ensures { GivesMeant (λ _. column_of triples.new) result
         (triples_then (column_of triples.old) (zipped column.now.rep column.now.def (levels_of count repetitions.now) (levels_of count definitions.now) (map value_of values.items))) }
 {
     triples.reserve(room(definitions, &values))?;
@@ -56,7 +56,7 @@ fn triple(
     definition: u32,
     values: &mut IntoIter<Value>,
 ) -> Result<Triple, PqFault>
-    ensures { Gives (λ t. (entry_of t, map value_of (into_iter_items values.new))) result
+    ensures { GivesMeant (λ t. (entry_of t, map value_of (into_iter_items values.new))) result
         (one_triple column.now.rep column.now.def repetition definition (map value_of (into_iter_items values.old))) }
 {
     if repetition > u32::from(column.rep) || definition > u32::from(column.def) {

@@ -22,3 +22,6 @@ returns-clause-begun c = fit.begun_fits
 
 pub returns-clause-put : goal.returns-clause-put
 returns-clause-put c = fit.put_stays_fit
+
+pub returns-clause-with_begun : goal.returns-clause-with_begun
+returns-clause-with_begun c = fit.all_fit_with_begun

@@ -7,3 +7,6 @@ returns-clause-come c = example.checkpointing_is_lawful
 
 pub returns-clause-go : goal.returns-clause-go
 returns-clause-go c = example.clearing_is_lawful
+
+pub returns-clause-floor : goal.returns-clause-floor
+returns-clause-floor c = example.cleared_floor

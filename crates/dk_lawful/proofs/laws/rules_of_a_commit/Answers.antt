@@ -3,6 +3,7 @@ use Rattle.dk_lawful.proofs.HeadRules.{rules_by_heads, agreeing_have_same_rules}
 use Rattle.dk_lawful.proofs.Management.{features_stay}
 use Rattle.dk_lawful.proofs.SoFar.{written_has_neither, rules_so_far, read_so_far}
 use Rattle.dk_lawful.proofs.Transacted.{transacted_plainly}
+use Rattle.dk_lawful.proofs.Joining.{each_is_valid}
 use Rattle.dk_lawful.proofs.laws.rules_of_a_commit.Goals as goal
 
 pub returns-clause-heads : goal.returns-clause-heads
@@ -25,3 +26,6 @@ returns-clause-read c = read_so_far
 
 pub returns-clause-plainly : goal.returns-clause-plainly
 returns-clause-plainly c = transacted_plainly
+
+pub returns-clause-each : goal.returns-clause-each
+returns-clause-each c = each_is_valid

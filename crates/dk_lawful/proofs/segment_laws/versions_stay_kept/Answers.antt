@@ -1,5 +1,6 @@
 -- The laws are lemmas.
 use Rattle.dk_lawful.proofs.Openable.{each_from_floor_is_kept, cleanup_leaves_floor, others_leave_floor, plain_is_by_commits}
+use Rattle.dk_lawful.proofs.SamePlaces.{same_places_read_alike}
 use Rattle.dk_lawful.proofs.StandingPlaces.{standing_places_stand}
 use Rattle.dk_lawful.proofs.segment_laws.versions_stay_kept.Goals as goal
 
@@ -17,3 +18,6 @@ returns-clause-plain c = plain_is_by_commits
 
 pub returns-clause-places : goal.returns-clause-places
 returns-clause-places c = standing_places_stand
+
+pub returns-clause-alike : goal.returns-clause-alike
+returns-clause-alike c = same_places_read_alike

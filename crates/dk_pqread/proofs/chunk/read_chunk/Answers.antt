@@ -7,13 +7,17 @@ use Rattle.dk_pqread.specs.ChunkMeaning.{EntriesHold, DataFrom}
 use Rattle.dk_pqread.specs.ColumnView.{column_at}
 use Rattle.dk_pqread.specs.LeafView.{leaf_of}
 use Rattle.dk_pqread.specs.Meanings.{Finds}
-use Rattle.dk_pqread.proofs.ChunkPages.{nothing_wanted, no_first_page, data_chunk, dictionary_refused, dictionary_chunk}
+use Rattle.dk_pqread.proofs.ChunkPages.{nothing_wanted, beyond, no_first_page, data_chunk, dictionary_refused, dictionary_chunk}
 use Rattle.dk_pqread.proofs.chunk.read_chunk.Goals as goal
 
 pub returns-then-chunk-eq0 : goal.returns-then-chunk-eq0
 returns-then-chunk-eq0 c =
     rw c.new.ensures.items
-    (nothing_wanted c.args.before.now (column_at c.args.column.now) (chunk_view c.args.chunk.now) (search rules) (search rules) c.if-chunk-eq0.true (omega (arith, c.if-place-before.false, c.first_place-place.ensures)))
+    (nothing_wanted c.args.before.now (column_at c.args.column.now) (chunk_view c.args.chunk.now) (search rules) (search rules) c.if-chunk-eq0.true)
+
+pub returns-then-place-before : goal.returns-then-place-before
+returns-then-place-before c =
+    beyond c.args.before.now (column_at c.args.column.now) (chunk_view c.args.chunk.now) (omega (arith, c.if-chunk-eq0.false)) (omega (arith, c.if-place-before.true, c.first_place-place.ensures))
 
 pub returns-in-Err : goal.returns-in-Err
 returns-in-Err c =

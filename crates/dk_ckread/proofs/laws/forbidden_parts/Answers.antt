@@ -1,0 +1,9 @@
+-- Each lacks one condition.
+use Rattle.dk_ckread.proofs.ForbiddenParquet as forbidden
+use Rattle.dk_ckread.proofs.laws.forbidden_parts.Goals as goal
+
+pub returns-clause-other_share : goal.returns-clause-other_share
+returns-clause-other_share c = forbidden.other_share
+
+pub returns-clause-beyond : goal.returns-clause-beyond
+returns-clause-beyond c = forbidden.part_beyond
