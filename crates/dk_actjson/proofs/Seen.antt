@@ -1,5 +1,6 @@
 -- What a JSON value is read as.
 use Rattle.std.proofs.Common.{◌≡◌, ℕ, List, [], ◌∷◌, Bool, true, false, ◌&&◌, cond, Option, Some, None, option_map, option_and_then, is_some, refl, sym, ap, ◌∙◌}
+use Rattle.std.specs.Option.{option_or}
 use Rattle.std.specs.Str.{bytes_eq}
 use Rattle.std.proofs.lemmas.Slice.Eq.{bytes_eq-Decides}
 use Rattle.json.specs.Json as json
@@ -56,31 +57,27 @@ mutual
 
 -- ---- looking up a member
 
-abbrev or_else : Option Data → Option Data → Option Data
-or_else (Some d) o = Some d
-or_else None o = o
-
-put_case : (q k : List ℕ) (j : json.Json) (found : Members) (b : Bool) → bytes_eq k q ≡ b → get_member q (put k (seen j) found) ≡ or_else (option_map seen (cond b (Some j) None)) (get_member q found)
+put_case : (q k : List ℕ) (j : json.Json) (found : Members) (b : Bool) → bytes_eq k q ≡ b → get_member q (put k (seen j) found) ≡ option_or (option_map seen (cond b (Some j) None)) (get_member q found)
 put_case q k j found true e = let same : k ≡ q = (bytes_eq-Decides k q).0 e in ap (λ x. get_member x (put k (seen j) found)) (sym same) ∙ get_member-put k (seen j) found
 put_case q k j found false e = get_member-put_other q k (seen j) found (λ same. differs ((bytes_eq-Decides k q).1 (sym same)) e)
   where
     differs : {b : Bool} → b ≡ true → b ≡ false → ⊥
     differs t f = cc
 
-later_case : (o earlier : Option json.Json) (old : Option Data) → or_else (option_map seen o) (or_else (option_map seen earlier) old) ≡ or_else (option_map seen (find.later_or o earlier)) old
+later_case : (o earlier : Option json.Json) (old : Option Data) → option_or (option_map seen o) (option_or (option_map seen earlier) old) ≡ option_or (option_map seen (find.later_or o earlier)) old
 later_case None earlier old = refl
 later_case (Some j) earlier old = refl
 
-member_seen : (q : List ℕ) (ms : json.Members) (found : Members) → get_member q (seen_members ms found) ≡ or_else (option_map seen (find.get_member q ms)) (get_member q found)
+member_seen : (q : List ℕ) (ms : json.Members) (found : Members) → get_member q (seen_members ms found) ≡ option_or (option_map seen (find.get_member q ms)) (get_member q found)
 member_seen q json.no_members found = refl
 member_seen q (json.member k j ms) found =
     member_seen q ms (put k (seen j) found)
-    ∙ ap (or_else (option_map seen (find.get_member q ms))) (put_case q k j found (bytes_eq k q) refl)
+    ∙ ap (option_or (option_map seen (find.get_member q ms))) (put_case q k j found (bytes_eq k q) refl)
     ∙ later_case (find.get_member q ms) (cond (bytes_eq k q) (Some j) None) (get_member q found)
 
-or_else-none : (o : Option Data) → or_else o None ≡ o
-or_else-none None = refl
-or_else-none (Some d) = refl
+option_or-none : (o : Option Data) → option_or o None ≡ o
+option_or-none None = refl
+option_or-none (Some d) = refl
 
 -- the member of a name is what is seen of the last one
 pub get_seen : (q : List ℕ) (j : json.Json) → get q (seen j) ≡ option_map seen (find.get q j)
@@ -93,7 +90,7 @@ get_seen q (json.number s) = by_number (number_of s)
     by_number (Some n) = refl
 get_seen q (json.string s) = refl
 get_seen q (json.array js) = refl
-get_seen q (json.object ms) = member_seen q ms no_members ∙ or_else-none (option_map seen (find.get_member q ms))
+get_seen q (json.object ms) = member_seen q ms no_members ∙ option_or-none (option_map seen (find.get_member q ms))
 
 present_seen : (j : json.Json) → present (Some (seen j)) ≡ cond (find.is_null j) None (Some (seen j))
 present_seen json.null = refl

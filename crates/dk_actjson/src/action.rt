@@ -282,7 +282,8 @@ pub(crate) fn read_action<T: Tree>(alloc: Global, tree: &T) -> Result<Option<Act
     read_keyed(alloc, key, tree)
 }
 
-/// The action of a value, or none where there is nothing to do.
+/// The action of a value (Delta Lake's PROTOCOL.md, "Actions"), or none where there is nothing to do: it has no known key.
+/// `Bad` where it is no object, has two keys of actions, or a field of another form than that of its action.
 pub fn action_of(alloc: Global, value: &Value) -> Result<Option<Action>, ActionFault>
     ensures { Gives result (action_in (view value.now)) }
 {

@@ -9,12 +9,10 @@ mod fault;
 mod field;
 mod form;
 mod number;
+mod object;
 mod owned;
 mod read;
-mod recorded;
 mod shown;
-#[cfg(test)]
-mod tests;
 mod tree;
 mod write;
 mod written;

@@ -67,7 +67,8 @@ fn first_line(bytes: &[u8]) -> (&[u8], Option<&[u8]>)
     }
 }
 
-/// The actions of a text of lines, or the first line that means nothing.
+/// The actions of a text of lines (Delta Lake's PROTOCOL.md, "Delta Log Entries"), or the first line that means nothing, by its
+/// number from 1. Blank lines and objects with no known key are passed over. Takes memory in proportion to the text.
 pub fn read_commit(alloc: Global, bytes: &[u8]) -> Result<Commit, LineFault>
     ensures { GivesLines result (reading_of bytes.now) }
 {

@@ -14,7 +14,9 @@ const MAX_PAIRS: u64 = 8;
 
 const MAX_DIGITS: usize = 12;
 
-/// The milliseconds of an interval text; `None` exactly where the text is no interval. It takes no memory.
+/// The milliseconds of an interval text, as `interval 1 week`, in which tables say how long removed files and commits are kept:
+/// one to eight pairs of a number and a unit, from milliseconds to weeks. `None` exactly where the text is no interval. It takes
+/// no memory.
 pub fn read_interval(text: &str) -> Option<i128>
     ensures { result ≡ interval_of text.now }
 {

@@ -26,6 +26,3 @@ pub use read::read_name;
 pub use sidecar::{is_sidecar, sidecar_path, write_sidecar};
 pub use staged::{read_staged, staged_path, write_staged};
 pub use write::{commit_path, write_name, write_path};
-
-#[cfg(test)]
-mod tests;

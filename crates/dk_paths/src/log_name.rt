@@ -1,7 +1,7 @@
 //! What a name in the log's own folder means.
 
 /// The meaning of a name in `_delta_log` (Delta Lake's PROTOCOL.md, "File Types").
-#[derive(Clone, Copy, Debug, PartialEq, Eq)]
+#[derive(Clone, Copy, Debug)]
 pub enum LogName {
     /// `n.json`: the commit of a version.
     Commit { version: u64 },

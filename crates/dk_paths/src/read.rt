@@ -24,7 +24,7 @@ pub const PARQUET: &[u8] = b".parquet";
 
 pub const DOT: &[u8] = b".";
 
-/// What a name of the log's folder means. It takes no memory.
+/// What a name of the log's folder means (Delta Lake's PROTOCOL.md, "Delta Log Entries", "Checkpoints"). It takes no memory.
 pub fn read_name(name: &str) -> LogName
     ensures named { result ≡ name_of name.now }
     ensures exact { IsNameOf name.now result }

@@ -8,7 +8,8 @@ use crate::read::PARQUET;
 use crate::spelling::Id;
 use std::alloc::{AllocError, Global};
 
-/// Whether a name is that of a sidecar: it lies directly in its folder and ends in `.parquet`.
+/// Whether a name is that of a sidecar (Delta Lake's PROTOCOL.md, "Sidecar Files"): it lies directly in its folder and ends in
+/// `.parquet`.
 pub fn is_sidecar(name: &str) -> bool
     ensures { result ≡ is_sidecar_name name.now }
 {
@@ -22,7 +23,7 @@ fn ends_in_parquet(name: &[u8]) -> bool
     name.ends_with(PARQUET)
 }
 
-/// The name of the sidecar of a UUID, `u.parquet`.
+/// The name of the sidecar of a UUID, `u.parquet`. `Err` says that memory was wanted and not had.
 pub fn write_sidecar(alloc: Global, id: u128) -> Result<String, AllocError>
     ensures written { IfOk result (λ text. string_bytes text ≡ sidecar_name id) }
     ensures sidecar { is_sidecar_name (sidecar_name id) ≡ true }
@@ -31,7 +32,7 @@ pub fn write_sidecar(alloc: Global, id: u128) -> Result<String, AllocError>
     format!(in alloc; "{id}.parquet")
 }
 
-/// The whole path of a sidecar.
+/// The path of the sidecar of that name, from the table's folder. `Err` says that memory was wanted and not had.
 pub fn sidecar_path(alloc: Global, name: &str) -> Result<String, AllocError>
     requires { is_sidecar_name name.now ≡ true }
     ensures { IfOk result (λ text. string_bytes text ≡ place_path (Sidecar name.now)) }

@@ -38,7 +38,8 @@ fn named(text: &[u8]) -> Option<(u64, u128)>
     }
 }
 
-/// The name of a staged commit.
+/// The name of a staged commit (Delta Lake's PROTOCOL.md, "Staged Commits"), `v.u.json`. `Err` says that memory was wanted and
+/// not had.
 pub fn write_staged(alloc: Global, version: u64, id: u128) -> Result<String, AllocError>
     requires { version < 2 ^ 63 }
     ensures { IfOk result (λ text. string_bytes text ≡ staged_name version id) }
@@ -47,7 +48,7 @@ pub fn write_staged(alloc: Global, version: u64, id: u128) -> Result<String, All
     format!(in alloc; "{version}.{id}.json")
 }
 
-/// The whole path of a staged commit.
+/// The path of a staged commit from the table's folder. `Err` says that memory was wanted and not had.
 pub fn staged_path(alloc: Global, version: u64, id: u128) -> Result<String, AllocError>
     requires { version < 2 ^ 63 }
     ensures { IfOk result (λ text. string_bytes text ≡ codes "_delta_log/_staged_commits/" ++ staged_name version id) }
