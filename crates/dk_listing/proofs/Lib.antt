@@ -1,3 +1,4 @@
+pub mod CompleteNames
 pub mod PartSets
 pub mod Small
 pub mod Standing

@@ -11,7 +11,7 @@ use Rattle.std.proofs.lemmas.Bool.Decides.{nat_tests, eqb_tells}
 use Rattle.dk_paths.specs.declared.log_name.LogName.{LogName}
 use Rattle.dk_paths.specs.declared.log_name.LogName.TheVariants.{Commit, Classic, Part, V2Json, V2Parquet, Compacted, Hint, Other}
 use Rattle.dk_listing.specs.declared.named.Named.{Named}
-use Rattle.dk_listing.specs.Newest.{all_up_to, is_part, lists_part, newest_by, complete_version, newest_checkpoint}
+use Rattle.dk_listing.specs.Newest.{all_up_to, is_part, lists_part, complete_names, complete_checkpoints}
 use Rattle.dk_listing.specs.Parts.{part_cmp, has_part, HasParts}
 
 -- ---- all numbers up to one
@@ -107,7 +107,7 @@ parts_same set log place named lt is never has = λ version parts part.
 -- ---- the checkpoints
 
 -- a set that has the parts that are listed tells the complete checkpoints
-pub checkpoint_same : (set : BTreeSet (ℕ × ℕ × ℕ)) (log : List Named) → HasParts set log → newest_by (λ named. complete_version (has_part set) named.name) log ≡ newest_checkpoint log
-checkpoint_same set log has =
+pub complete_same : (set : BTreeSet (ℕ × ℕ × ℕ)) (log : List Named) → HasParts set log → complete_names (has_part set) log ≡ complete_checkpoints log
+complete_same set log has =
     let same : has_part set ≡ lists_part log = λ i version parts part. has version parts part i in
-    ap (λ (has : ℕ → ℕ → ℕ → Bool). newest_by (λ (named : Named). complete_version has named.name) log) same
+    ap (λ (has : ℕ → ℕ → ℕ → Bool). complete_names has log) same

@@ -1,6 +1,6 @@
 -- The greatest versions of a listing (Delta Lake's PROTOCOL.md, "Delta Log Entries", "Checkpoints").
-use Rattle.std.specs.Prelude.{ℕ, zero, suc, ◌==◌, ◌&&◌, max, Bool, true, false, Option, Some, None, List, if◌then◌else◌}
-use Rattle.std.specs.List.{list_any, fold}
+use Rattle.std.specs.Prelude.{ℕ, zero, suc, ◌==◌, ◌&&◌, max, Bool, true, false, Option, Some, None, is_some, List, map, if◌then◌else◌}
+use Rattle.std.specs.List.{list_any, filter, fold}
 use Rattle.dk_store.specs.declared.event.Ratification.{Ratification}
 use Rattle.dk_paths.specs.declared.log_name.LogName.{LogName}
 use Rattle.dk_paths.specs.declared.log_name.LogName.TheVariants.{Commit, Classic, Part, V2Json, V2Parquet, Compacted, Hint, Other}
@@ -71,6 +71,24 @@ lists_part log version parts part = list_any (λ named. is_part version parts pa
 
 abbrev pub newest_checkpoint : List Named → Option ℕ
 newest_checkpoint log = newest_by (λ named. complete_version (lists_part log) named.name) log
+
+-- each complete checkpoint of a log by the name that begins it, in order, where `has` tells the parts that are there
+abbrev pub complete_names : (ℕ → ℕ → ℕ → Bool) → List Named → List LogName
+complete_names has log = map (λ named. named.name) (filter (λ named. is_some (complete_version has named.name)) log)
+
+abbrev pub complete_checkpoints : List Named → List LogName
+complete_checkpoints log = complete_names (lists_part log) log
+
+-- the version of a checkpoint's object, by its name
+abbrev pub checkpoint_version : LogName → Option ℕ
+checkpoint_version (Commit version) = None
+checkpoint_version (Classic version) = Some version
+checkpoint_version (Part version part parts) = Some version
+checkpoint_version (V2Json version id) = Some version
+checkpoint_version (V2Parquet version id) = Some version
+checkpoint_version (Compacted first last) = None
+checkpoint_version Hint = None
+checkpoint_version Other = None
 
 -- ---- every name
 

@@ -1,9 +1,10 @@
 //! A listing of the log, sorted by what it says.
 ghost use Rattle.std.specs.Prelude.{◌≡◌, ◌<◌, ◌^◌, All};
-ghost use Rattle.dk_listing.specs.Newest.{newest_checkpoint, version_in};
+ghost use Rattle.dk_listing.specs.Newest.{complete_checkpoints, version_in};
 
 use crate::named::{Named, Staged};
-use crate::newest::{later, newest_commit, newest_ratified};
+use crate::newest::{later, newest_commit, newest_named, newest_ratified};
+use dk_paths::LogName;
 use dk_store::Ratification;
 
 /// What a listing of the log, its staged commits and the catalogue says. [`group`](crate::group) makes it.
@@ -15,16 +16,32 @@ pub struct Catalogued {
     pub staged: Vec<Staged>,
     /// The ratifications that stand, in the order of the catalogue.
     pub ratified: Vec<Ratification>,
-    /// The greatest version of a complete checkpoint.
-    pub(crate) checkpoint: Option<u64>,
+    /// Each complete checkpoint by the name that begins it.
+    pub(crate) checkpoints: Vec<LogName>,
     ghost names_small: { All (λ named. version_in named.name < 2 ^ 63) log.items },
     ghost ratified_small: { All (λ r. r.version < 2 ^ 63) ratified.items },
-    ghost newest: { checkpoint ≡ newest_checkpoint log.items },
+    ghost complete: { checkpoints.items ≡ complete_checkpoints log.items },
 }
 
 impl Catalogued {
     ghost use Rattle.std.specs.Prelude.{IfSome};
     ghost use Rattle.dk_listing.specs.Latest.{latest_of, published_of};
+    ghost use Rattle.dk_listing.specs.Newest.{complete_checkpoints, newest_checkpoint};
+
+    /// The complete checkpoints, each by the name that begins it, in the order of the listing: of one in parts that of its
+    /// first part (Delta Lake's PROTOCOL.md, "Checkpoints"). Takes no memory.
+    pub fn complete_checkpoints(&self) -> &[LogName]
+        ensures { result.now ≡ complete_checkpoints self.now.log.items }
+    {
+        self.checkpoints.as_slice()
+    }
+
+    /// The greatest version of a complete checkpoint.
+    fn newest_checkpoint(&self) -> Option<u64>
+        ensures { result ≡ newest_checkpoint self.now.log.items }
+    {
+        newest_named(self.complete_checkpoints())
+    }
 
     /// The greatest version of a commit, of a ratification that stands, or of a complete checkpoint. Takes no memory.
     pub fn latest(&self) -> Option<u64>
@@ -32,7 +49,7 @@ impl Catalogued {
         ensures small { IfSome result (λ version. version < 2 ^ 63) }
     {
         later(
-            later(newest_commit(&self.log), self.checkpoint),
+            later(newest_commit(&self.log), self.newest_checkpoint()),
             newest_ratified(&self.ratified),
         )
     }

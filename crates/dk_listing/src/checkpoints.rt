@@ -4,7 +4,6 @@ ghost use Rattle.dk_listing.specs.Newest as newest;
 ghost use Rattle.dk_listing.specs.Parts.{HasParts, has_part};
 
 use crate::named::Named;
-use crate::newest::later;
 use dk_paths::LogName;
 use std::alloc::{AllocError, Global};
 use std::collections::BTreeSet;
@@ -59,14 +58,16 @@ fn complete_version(set: &Parts, name: &LogName) -> Option<u64>
     }
 }
 
-/// The greatest version of a complete checkpoint.
-pub(crate) fn newest_checkpoint(alloc: Global, log: &[Named]) -> Result<Option<u64>, AllocError>
-    ensures { IfOk result (λ found. found ≡ newest.newest_checkpoint log.now) }
+/// Each complete checkpoint by the name that begins it, in the order of the log: of one in parts that of its first part.
+pub(crate) fn complete_checkpoints(alloc: Global, log: &[Named]) -> Result<Vec<LogName>, AllocError>
+    ensures { IfOk result (λ found. found.items ≡ newest.complete_checkpoints log.now) }
 {
     let set = listed_parts(alloc, log)?;
-    let mut best = None;
+    let mut found = Vec::new(alloc);
     for named in log {
-        best = later(best, complete_version(&set, &named.name));
+        if complete_version(&set, &named.name).is_some() {
+            found.push(named.name)?;
+        }
     }
-    Ok(best)
+    Ok(found)
 }

@@ -26,6 +26,29 @@ fn commit_version(name: &LogName) -> Option<u64>
     }
 }
 
+fn checkpoint_version(name: &LogName) -> Option<u64>
+    ensures { result ≡ newest.checkpoint_version name.now }
+{
+    match *name {
+        LogName::Classic { version } => Some(version),
+        LogName::Part { version, .. } => Some(version),
+        LogName::V2Json { version, .. } => Some(version),
+        LogName::V2Parquet { version, .. } => Some(version),
+        _ => None,
+    }
+}
+
+/// The greatest version of a checkpoint among these names.
+pub(crate) fn newest_named(names: &[LogName]) -> Option<u64>
+    ensures { result ≡ newest.newest_by newest.checkpoint_version names.now }
+{
+    let mut best = None;
+    for name in names {
+        best = later(best, checkpoint_version(name));
+    }
+    best
+}
+
 /// The greatest version of a commit.
 pub(crate) fn newest_commit(log: &[Named]) -> Option<u64>
     ensures { result ≡ newest.newest_commit log.now }

@@ -5,7 +5,7 @@ ghost use Rattle.dk_store.specs.Views.{listed};
 ghost use Rattle.dk_listing.specs.Entries.{in_log, in_staged, named_entry, staged_entry};
 
 use crate::catalogued::Catalogued;
-use crate::checkpoints::newest_checkpoint;
+use crate::checkpoints::complete_checkpoints;
 use crate::grouping::{read_log_names, read_staged_names};
 use dk_store::{Entry, Ratification};
 use std::alloc::{AllocError, Global};
@@ -26,11 +26,11 @@ pub fn group(
 {
     let log = read_log_names(alloc, log)?;
     let staged = read_staged_names(alloc, staged)?;
-    let checkpoint = newest_checkpoint(alloc, &log)?;
+    let checkpoints = complete_checkpoints(alloc, &log)?;
     Ok(Catalogued {
         log,
         staged,
         ratified,
-        checkpoint,
+        checkpoints,
     })
 }

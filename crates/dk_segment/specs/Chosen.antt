@@ -3,7 +3,7 @@ use Rattle.std.specs.Prelude.{ℕ, Bool, Option, Some, None, Result, Ok, Err, Li
 use Rattle.dk_paths.specs.Places.{Place}
 use Rattle.dk_lawful.specs.declared.segment.Choice.{Choice}
 use Rattle.dk_lawful.specs.declared.segment.Segment.{Segment}
-use Rattle.dk_lawful.specs.Segments.{segment_of, first_gap}
+use Rattle.dk_lawful.specs.Segments.{commit_segment, commit_gap}
 use Rattle.dk_engine.specs.declared.refusal.Refusal.{Refusal}
 use Rattle.dk_engine.specs.declared.refusal.Refusal.TheVariants.{Missing, OutOfMemory}
 
@@ -13,7 +13,7 @@ unless_gap segment (Some path) = Err (Missing path)
 
 -- the segment of a version, where each commit of it is there; else the path of the first that isn't
 abbrev pub chosen : (Place → Bool) → (ℕ → Option (List ℕ)) → ℕ → Choice → Result Segment Refusal
-chosen present ratified version choice = unless_gap (segment_of present ratified version choice) (first_gap present ratified version choice)
+chosen present ratified version choice = unless_gap (commit_segment present ratified version choice) (commit_gap present ratified version choice)
 
 -- the only refusals: a commit is missing, or memory was refused
 abbrev pub ChooseRefuses : Refusal → Type 0

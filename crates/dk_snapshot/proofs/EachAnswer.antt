@@ -8,14 +8,15 @@ use Rattle.dk_store.specs.Standings.{standing}
 use Rattle.dk_lawful.specs.declared.segment.Choice.{Choice}
 use Rattle.dk_lawful.specs.History.{next_version, table_at}
 use Rattle.dk_lawful.specs.Lawful.{Lawful}
-use Rattle.dk_lawful.specs.Segments.{first_gap}
+use Rattle.dk_lawful.specs.Segments.{commit_gap}
 use Rattle.dk_engine.specs.declared.limits.Limits.{Limits}
 use Rattle.dk_engine.specs.declared.limits.Which.TheVariants.{Object}
 use Rattle.dk_engine.specs.declared.refusal.Refusal.{Refusal}
 use Rattle.dk_engine.specs.declared.refusal.Refusal.TheVariants.{Limit, Unsupported}
 use Rattle.dk_listing.specs.OfEvents.{stands_at}
 use Rattle.dk_snapshot.specs.declared.table.Snapshot.{Snapshot}
-use Rattle.dk_snapshot.specs.LawfulOpens.{AsksVersion, IsKeptBy, segment_by, AnswersHistory, EachAnswer}
+use Rattle.dk_snapshot.specs.LawfulOpens.{AsksVersion, IsKeptBy, segment_by, AnswersHistory}
+use Rattle.dk_snapshot.proofs.Values.{EachAnswer}
 use Rattle.dk_snapshot.specs.Opening.{opened}
 use Rattle.dk_snapshot.specs.Steps.{oldest_path}
 use Rattle.dk_snapshot.specs.Support.{cut_of}
@@ -39,9 +40,9 @@ module _ (events : List Told) (horizon : ℤ) (lawful : Lawful events horizon) (
 
   -- of a version of the history
   version_answer : (at : Option ℕ) (version : ℕ) → AsksVersion events at version → AnswersHistory events limits at choice now (opened events limits at choice now)
-  version_answer at version asks = by (first_gap (stands_at events) (standing events) version choice) refl
+  version_answer at version asks = by (commit_gap (stands_at events) (standing events) version choice) refl
     where
-      by : (gap : Option (List ℕ)) → first_gap (stands_at events) (standing events) version choice ≡ gap → AnswersHistory events limits at choice now (opened events limits at choice now)
+      by : (gap : Option (List ℕ)) → commit_gap (stands_at events) (standing events) version choice ≡ gap → AnswersHistory events limits at choice now (opened events limits at choice now)
       by None kept = kept_answer at version asks kept (opened events limits at choice now) (opened_exactly events horizon lawful limits choice now at version asks kept)
       by (Some path) gap =
           subst (AnswersHistory events limits at choice now) (sym (gap_is_missing events horizon limits at choice now version path lawful asks gap)) (inl (version, asks, gap))

@@ -1,12 +1,13 @@
 -- What opens of a lawful log.
-use Rattle.std.proofs.Common.{◌≡◌, ℕ, zero, suc, ℤ, ◌+◌, ◌<◌, ◌≤◌, Bool, true, false, true≢false, List, take, Option, Some, None, refl, sym, ap, subst, ◌∙◌, arith}
-use Rattle.std.specs.Prelude.{Result, Ok, Err, IsSome, option_map, nat_le, if◌then◌else◌}
+use Rattle.std.proofs.Common.{◌≡◌, ◌⊎◌, inl, inr, ℕ, zero, suc, ℤ, ◌+◌, ◌<◌, ◌≤◌, Bool, true, false, true≢false, List, take, Option, Some, None, refl, sym, ap, subst, ◌∙◌, arith}
+use Rattle.std.specs.Prelude.{Result, Ok, Err, IfSome, IsSome, option_map, nat_le, if◌then◌else◌}
 use Rattle.std.proofs.lemmas.Bool.{leb-true}
 use Rattle.dk_model.specs.declared.action.Action.{Action}
 use Rattle.dk_model.specs.declared.action.Metadata.{Metadata}
 use Rattle.dk_model.specs.declared.action.Protocol.{Protocol}
 use Rattle.dk_model.specs.declared.state.TableState.{TableState}
 use Rattle.dk_model.specs.State.{fold}
+use Rattle.dk_features.specs.Support.{unread_name}
 use Rattle.dk_store.specs.Told.{Told}
 use Rattle.dk_store.specs.Standings.{standing}
 use Rattle.dk_paths.specs.Names.{commit_path}
@@ -15,7 +16,9 @@ use Rattle.dk_lawful.specs.declared.segment.Segment.{Segment}
 use Rattle.dk_lawful.specs.Agree.{Agree}
 use Rattle.dk_lawful.specs.History.{HasHeads, history, next_version, commits_of, table_at}
 use Rattle.dk_lawful.specs.Lawful.{Lawful}
-use Rattle.dk_lawful.specs.Segments.{commit_place, first_gap, gap_from}
+use Rattle.dk_lawful.specs.SoFar.{awaited}
+use Rattle.dk_lawful.specs.Written.{is_read_by}
+use Rattle.dk_lawful.specs.Segments.{commit_place, commit_gap, gap_from}
 use Rattle.dk_lawful.proofs.SegmentSteps.{no_gap}
 use Rattle.dk_lawful.proofs.Validly.{table_is_whole}
 use Rattle.dk_engine.specs.declared.limits.Limits.{Limits}
@@ -26,35 +29,39 @@ use Rattle.dk_listing.specs.OfEvents.{stands_at, latest}
 use Rattle.dk_segment.specs.Chosen.{unless_gap}
 use Rattle.dk_snapshot.specs.declared.table.Snapshot.{Snapshot}
 use Rattle.dk_snapshot.specs.Asked.{version_asked}
-use Rattle.dk_snapshot.specs.LawfulOpens.{last_of, AsksVersion, IsKeptBy, segment_by, OpenedIsAsked, OpenedIsTable, HasCut, OpenedHasCut, IsNewestOver, AreWithinLimit, AnswersVersion, KeptIsAnswered, GapIsMissing, AboveIsNoVersion, EmptyIsMissing}
+use Rattle.dk_snapshot.specs.LawfulOpens.{last_of, AsksVersion, IsKeptBy, segment_by, HasCut, RefusesRetention, RefusesAwaited, RefusesTable, IsNewestOver, AreWithinLimit, AnswersVersion}
+use Rattle.dk_snapshot.proofs.Values.{OpenedIsAsked, OpenedIsTable, OpenedHasCut, KeptIsAnswered, GapIsMissing, AboveIsNoVersion, EmptyIsMissing}
 use Rattle.dk_snapshot.specs.Opening.{with_cut, state_of, snapshot_with, opened_chosen, opened_version, opened_asked, opened}
 use Rattle.dk_snapshot.specs.Steps as reading
 use Rattle.dk_snapshot.specs.Steps.{oldest_path}
 use Rattle.dk_snapshot.specs.Support.{retention_key, retention, cut_before, cut_unless, cut_with, cut_of}
 use Rattle.dk_snapshot.proofs.KeptVersions.{above, opened_is_kept, version_read, within}
 use Rattle.dk_snapshot.proofs.LastVersion.{latest_is_last}
+use Rattle.dk_snapshot.proofs.LawfulTables.{CanBeRead, awaits_or_none, tables_read}
 use Rattle.dk_snapshot.proofs.LawfulReads.{ReadsTo, reads}
 
 -- ---- the cut of a table that has begun
 
--- there is one, or the table asks for what isn't read
-abbrev IsCut : Result ℤ Refusal → Type 0
-IsCut (Ok cut) = Unit {0}
-IsCut (Err (Unsupported name)) = Unit {0}
-IsCut (Err _) = ⊥
+-- there is one, or the table is refused by name
+abbrev IsCut : Option Protocol → Option Metadata → Result ℤ Refusal → Type 0
+IsCut protocol metadata (Ok cut) = Unit {0}
+IsCut protocol metadata (Err (Unsupported name)) = RefusesRetention name metadata ⊎ RefusesAwaited name protocol
+IsCut protocol metadata (Err _) = ⊥
 
-unless_is : (found : Option (List ℕ)) (kept : Option ℤ) (now : ℤ) → IsCut (cut_unless found kept now)
-unless_is (Some name) kept now = tt
-unless_is None None now = tt
-unless_is None (Some kept) now = tt
+unless_is : (p : Protocol) (metadata : Metadata) (found : Option (List ℕ)) (kept : Option ℤ) (now : ℤ) → (found ≡ None) ⊎ (IsSome (awaited (Some p)) × (found ≡ unread_name p)) → retention metadata ≡ kept
+    → IsCut (Some p) (Some metadata) (cut_unless found kept now)
+unless_is p metadata (Some name) kept now (inl none) is = absurd (let no : ◌≡◌ {A = Option (List ℕ)} (Some name) None = none in cc)
+unless_is p metadata (Some name) kept now (inr (awaits, named)) is = inr (awaits, sym named)
+unless_is p metadata None None now found is = inl (refl, is)
+unless_is p metadata None (Some kept) now found is = tt
 
-heads_cut : (oldest : List ℕ) (state : TableState) (now : ℤ) → HasHeads state → IsCut (cut_of oldest state now)
-heads_cut oldest state now heads = by state.protocol state.metadata heads.protocol heads.metadata
+heads_cut : (oldest : List ℕ) (state : TableState) (now : ℤ) → HasHeads state → CanBeRead state → IsCut state.protocol state.metadata (cut_of oldest state now)
+heads_cut oldest state now heads reads = by state.protocol state.metadata heads.protocol heads.metadata reads.reader
   where
-    by : (protocol : Option Protocol) (metadata : Option Metadata) → IsSome protocol → IsSome metadata → IsCut (cut_with oldest protocol metadata state.files now)
-    by None metadata none some = absurd (true≢false (sym none))
-    by (Some p) None some none = absurd (true≢false (sym none))
-    by (Some p) (Some m) some_protocol some_metadata = unless_is _ (retention m) now
+    by : (protocol : Option Protocol) (metadata : Option Metadata) → IsSome protocol → IsSome metadata → IfSome protocol (λ p. is_read_by p ≡ true) → IsCut protocol metadata (cut_with oldest protocol metadata state.files now)
+    by None metadata none some reader = absurd (true≢false (sym none))
+    by (Some p) None some none reader = absurd (true≢false (sym none))
+    by (Some p) (Some m) some_protocol some_metadata reader = unless_is p m _ (retention m) now (awaits_or_none p state.files reader reads.files) refl
 
 -- and it is the moment of the call, less the time that removed files are kept
 unless_cut : (metadata : Metadata) (found : Option (List ℕ)) (kept : Option ℤ) (now cut : ℤ) → retention metadata ≡ kept → cut_unless found kept now ≡ Ok cut → HasCut (Some metadata) now cut
@@ -88,10 +95,10 @@ abbrev pub Exactly : List Told → Limits → ℤ → ℕ → Segment → Result
 Exactly events limits now version segment (Ok snapshot) = IsExactly events limits now version segment snapshot
 Exactly events limits now version segment (Err (Limit Object size)) = IsNewestOver events limits.object segment.steps size
 Exactly events limits now version segment (Err (Unsupported name)) =
-    AreWithinLimit events limits.object segment.steps × (cut_of (oldest_path segment.steps) (table_at events version) now ≡ Err (Unsupported name))
+    AreWithinLimit events limits.object segment.steps × RefusesTable name (table_at events version)
 Exactly events limits now version segment (Err _) = ⊥
 
-agrees_itself : (state whole : TableState) (horizon : ℤ) → state ≡ whole → Agree state whole horizon
+pub agrees_itself : (state whole : TableState) (horizon : ℤ) → state ≡ whole → Agree state whole horizon
 agrees_itself state whole horizon same = subst (λ (s : TableState). Agree state s horizon) same (record {
   protocol = refl;
   metadata = refl;
@@ -116,15 +123,15 @@ exactly_answers events horizon limits now version segment (Err (Unsupported name
 exactly_answers events horizon limits now version segment (Err _) is = absurd is
 
 -- a segment whose steps are read as these commits, or not read for an object over the limit
-read_exactly : (events : List Told) (limits : Limits) (now : ℤ) (version : ℕ) (segment : Segment) → HasHeads (table_at events version)
+read_exactly : (events : List Told) (limits : Limits) (now : ℤ) (version : ℕ) (segment : Segment) → HasHeads (table_at events version) → CanBeRead (table_at events version)
     → ReadsTo events limits.object segment.steps (take (version + 1) (commits_of (history events))) (reading.commits_of events limits.object segment.steps)
     → Exactly events limits now version segment (snapshot_with version segment (state_of (oldest_path segment.steps) now (reading.commits_of events limits.object segment.steps)))
-read_exactly events limits now version segment heads found = by (reading.commits_of events limits.object segment.steps) found
+read_exactly events limits now version segment heads can found = by (reading.commits_of events limits.object segment.steps) found
   where
-    by_cut : (state : TableState) → state ≡ table_at events version → AreWithinLimit events limits.object segment.steps → (cut : Result ℤ Refusal) → cut_of (oldest_path segment.steps) (table_at events version) now ≡ cut → IsCut cut
+    by_cut : (state : TableState) → state ≡ table_at events version → AreWithinLimit events limits.object segment.steps → (cut : Result ℤ Refusal) → cut_of (oldest_path segment.steps) (table_at events version) now ≡ cut → IsCut (table_at events version).protocol (table_at events version).metadata cut
         → Exactly events limits now version segment (snapshot_with version segment (with_cut state cut))
     by_cut state same all (Ok cut) is fine = record { is_version = refl; is_segment = refl; state = same; within = all; cut = is }
-    by_cut state same all (Err (Unsupported name)) is fine = (all, is)
+    by_cut state same all (Err (Unsupported name)) is fine = (all, fine)
     by_cut state same all (Err _) is fine = absurd fine
 
     by : (read : Result (List (List Action)) Refusal) → ReadsTo events limits.object segment.steps (take (version + 1) (commits_of (history events))) read
@@ -133,7 +140,7 @@ read_exactly events limits now version segment heads found = by (reading.commits
         let same : fold commits ≡ table_at events version = ap fold reads_them.0 in
         let oldest : List ℕ = oldest_path segment.steps in
         subst (λ (cut : Result ℤ Refusal). Exactly events limits now version segment (snapshot_with version segment (with_cut (fold commits) cut))) (ap (λ (s : TableState). cut_of oldest s now) (sym same))
-        (by_cut (fold commits) same reads_them.1 (cut_of oldest (table_at events version) now) refl (heads_cut oldest (table_at events version) now heads))
+        (by_cut (fold commits) same reads_them.1 (cut_of oldest (table_at events version) now) refl (heads_cut oldest (table_at events version) now heads can))
     by (Err (Limit Object size)) reads_them = reads_them
     by (Err _) reads_them = absurd reads_them
 
@@ -147,7 +154,7 @@ module _ (events : List Told) (horizon : ℤ) (lawful : Lawful events horizon) (
       let place_at = commit_place (stands_at events) (standing events) choice.staged_first in
       let none : gap_from place_at 0 (version + 1) ≡ None = no_number (gap_from place_at 0 (version + 1)) kept in
       subst (λ (gap : Option (List ℕ)). Exactly events limits now version (segment_by events version choice) (opened_chosen events limits now version (unless_gap (segment_by events version choice) gap))) (sym kept)
-      (read_exactly events limits now version (segment_by events version choice) (table_is_whole events horizon lawful version below)
+      (read_exactly events limits now version (segment_by events version choice) (table_is_whole events horizon lawful version below) (tables_read events horizon lawful version below)
       (reads events horizon lawful choice.staged_first limits.object (version + 1) (omega arith) (λ w less. no_gap place_at 0 (version + 1) none w (omega arith) (omega arith))))
 
   -- ---- the asked version
@@ -213,7 +220,7 @@ module _ (events : List Told) (horizon : ℤ) (lawful : Lawful events horizon) (
 
   -- ---- what isn't
 
-  gap_missing : (at : Option ℕ) (version : ℕ) (path : List ℕ) → AsksVersion events at version → first_gap (stands_at events) (standing events) version choice ≡ Some path → opened events limits at choice now ≡ Err (Missing path)
+  gap_missing : (at : Option ℕ) (version : ℕ) (path : List ℕ) → AsksVersion events at version → commit_gap (stands_at events) (standing events) version choice ≡ Some path → opened events limits at choice now ≡ Err (Missing path)
   gap_missing at version path asks gap =
       ap (opened_asked events limits choice now) (asked_is at version asks)
       ∙ ap (λ (missing : Option (List ℕ)). opened_chosen events limits now version (unless_gap (segment_by events version choice) missing)) gap

@@ -6,11 +6,16 @@ pub mod Segments
 pub mod FromListing
 pub mod PlainLog
 pub mod Effects
+pub mod Refusals
 pub mod ReadVersions
 pub mod LatestVersion
+pub mod Values
 pub mod KeptVersions
 pub mod LastVersion
 pub mod LawfulReads
+pub mod LawfulTables
 pub mod LawfulOpens
 pub mod Undeleted
 pub mod EachAnswer
+pub mod Opens
+pub mod OpenedLaws

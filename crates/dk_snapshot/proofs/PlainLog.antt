@@ -23,14 +23,14 @@ use Rattle.dk_lawful.specs.declared.segment.Choice.{Choice}
 use Rattle.dk_lawful.specs.declared.segment.Segment.{Segment}
 use Rattle.dk_lawful.specs.declared.segment.Step.{Step}
 use Rattle.dk_lawful.specs.declared.segment.Step.TheVariants as steps
-use Rattle.dk_lawful.specs.Segments.{staged_at, commit_place, steps_from, gap_from, segment_of}
+use Rattle.dk_lawful.specs.Segments.{staged_at, commit_place, steps_from, gap_from, commit_segment}
 use Rattle.dk_lawful.proofs.SegmentSteps.{all_there, steps_none, steps_last}
 use Rattle.dk_engine.specs.declared.limits.Limits.{Limits}
 use Rattle.dk_engine.specs.declared.refusal.Refusal.{Refusal}
 use Rattle.dk_engine.specs.declared.refusal.Refusal.TheVariants.{NoVersion}
 use Rattle.dk_listing.specs.Entries.{in_log}
 use Rattle.dk_listing.specs.Latest.{part_among}
-use Rattle.dk_listing.specs.Newest.{later, newest_by, all_up_to, commit_version, complete_version}
+use Rattle.dk_listing.specs.Newest.{later, newest_by, all_up_to, commit_version, complete_version, checkpoint_version}
 use Rattle.dk_listing.specs.OfEvents.{stands_at, latest}
 use Rattle.dk_listing.specs.Presence.{is_at, name_at}
 use Rattle.dk_listing.specs.Sizes.{stored_size}
@@ -38,7 +38,7 @@ use Rattle.dk_listing.proofs.LatestOf.{newest_map}
 use Rattle.dk_listing.proofs.Standing.{any_filter_map, any_same, passes, commit_listed, name_at_standing}
 use Rattle.dk_segment.specs.Chosen.{chosen, unless_gap}
 use Rattle.dk_snapshot.specs.Asked.{version_asked, version_at}
-use Rattle.dk_snapshot.specs.History.{IsLog, AsksFor, IsBelow, EndsWith, checkpoint_version, AreWithin}
+use Rattle.dk_snapshot.specs.History.{IsLog, AsksFor, IsBelow, EndsWith, AreWithin}
 use Rattle.dk_snapshot.specs.Log.{newest_behind, commit_of_object}
 use Rattle.dk_snapshot.specs.Opening.{state_of, state_read, snapshot_with, opened_chosen, opened_asked, opened}
 use Rattle.dk_snapshot.specs.Plan.{stands, greatest_below}
@@ -239,7 +239,7 @@ module _ (events : List Told) (log : List (List Action)) (is : IsLog events log)
 -- ---- a version of the log
 
 abbrev pub segment_at : List Told → ℕ → Choice → Segment
-segment_at events version choice = segment_of (stands_at events) (standing events) version choice
+segment_at events version choice = commit_segment (stands_at events) (standing events) version choice
 
 pub opened_is : (events : List Told) (log : List (List Action)) (limits : Limits) (at : Option ℕ) (choice : Choice) (version : ℕ) (now : ℤ) → choice.staged_first ≡ false → IsLog events log → EndsWith events (length log) → AreWithin limits.object events → AsksFor at log version
     → opened events limits at choice now

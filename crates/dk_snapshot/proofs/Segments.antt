@@ -15,7 +15,7 @@ use Rattle.dk_model.specs.State.{empty_state, steps}
 use Rattle.dk_lawful.specs.declared.segment.Choice.{Choice}
 use Rattle.dk_lawful.specs.declared.segment.Segment.{Segment}
 use Rattle.dk_lawful.specs.declared.segment.Step.{Step}
-use Rattle.dk_lawful.specs.Segments.{if_present, id_of, id_named, published_at, staged_at, preferred, commit_place, before_later, steps_from, gap_from, segment_of, first_gap}
+use Rattle.dk_lawful.specs.Segments.{if_present, id_of, id_named, published_at, staged_at, preferred, commit_place, before_later, steps_from, gap_from, commit_segment, commit_gap}
 use Rattle.dk_engine.specs.declared.limits.Limits.{Limits}
 use Rattle.dk_engine.specs.declared.refusal.Refusal.{Refusal}
 use Rattle.dk_engine.specs.declared.refusal.Refusal.TheVariants as refusals
@@ -28,11 +28,11 @@ use Rattle.dk_listing.proofs.Sized.{commit_size, staged_size}
 use Rattle.dk_segment.specs.Chosen.{chosen, unless_gap}
 use Rattle.dk_segment.specs.Walked.{walked, unless_absent}
 use Rattle.dk_snapshot.specs.declared.table.Snapshot.{Snapshot}
-use Rattle.dk_snapshot.specs.Catalogue.{Surveys}
+use Rattle.dk_snapshot.specs.Surveyed.{Surveys}
 use Rattle.dk_snapshot.specs.Effects.{changes_read}
 use Rattle.dk_snapshot.specs.Opening.{state_read, state_of, read_of, snapshot_with, opened_segment, opened}
-use Rattle.dk_snapshot.specs.declared.sources.Sources.{Sources}
-use Rattle.dk_snapshot.specs.Sources.{AreSources}
+use Rattle.dk_snapshot.specs.declared.sized_segment.SizedSegment.{SizedSegment}
+use Rattle.dk_snapshot.specs.SizedSegment.{IsSizedSegmentAt}
 use Rattle.dk_snapshot.specs.Steps.{AreSized, commits_of, oldest_path, step_path}
 use Rattle.dk_snapshot.proofs.Effects.{fold_changes}
 
@@ -91,7 +91,7 @@ module _ (P : List ℕ → Type 0) where
 
   chosen_hold : (present : Place → Bool) (ratified : ℕ → Option (List ℕ)) (version : ℕ) (choice : Choice)
       → ((v : ℕ) → P (place_path (Commit_at v))) → ((v id : ℕ) → IsStaged v id → P (place_path (Staged v id)))
-      → All (λ (step : Step). P (step_path step)) (segment_of present ratified version choice).steps
+      → All (λ (step : Step). P (step_path step)) (commit_segment present ratified version choice).steps
   chosen_hold present ratified version choice published staged = walked_hold present ratified choice.staged_first 0 (version + 1) published staged
 
 is_segment : (whole segment : Segment) (gap : Option (List ℕ)) → unless_gap whole gap ≡ Ok segment → whole ≡ segment
@@ -106,11 +106,11 @@ map_same f g (x ∷ xs) each = ap₂ (λ (y : _) (ys : List _). y ∷ ys) (each 
 pub segment_sized : (events : List Told) (listing : Catalogued) → IsListingOf events listing → (present : Place → Bool) (ratified : ℕ → Option (List ℕ)) (version : ℕ) (choice : Choice) (segment : Segment)
     → chosen present ratified version choice ≡ Ok segment → AreSized events segment.steps (map (λ (step : Step). listed_size listing (step_path step)) segment.steps)
 segment_sized events listing is present ratified version choice segment chooses =
-    let same : segment_of present ratified version choice ≡ segment = is_segment (segment_of present ratified version choice) segment (first_gap present ratified version choice) chooses in
+    let same : commit_segment present ratified version choice ≡ segment = is_segment (commit_segment present ratified version choice) segment (commit_gap present ratified version choice) chooses in
     let size : Step → Option ℕ = λ step. listed_size listing (step_path step) in
     let stands : Step → Option ℕ = λ step. stored_size events (step_path step) in
     subst (λ (s : Segment). map size s.steps ≡ map stands s.steps) same
-    (map_same size stands (segment_of present ratified version choice).steps
+    (map_same size stands (commit_segment present ratified version choice).steps
     (chosen_hold (λ path. listed_size listing path ≡ stored_size events path) present ratified version choice (commit_size events listing is) (staged_size events listing is)))
 
 is_walked : (whole steps : List Step) (gap : Option ℕ) → unless_absent whole gap ≡ Ok steps → whole ≡ steps
@@ -168,14 +168,14 @@ snapshot_given : (version : ℕ) (segment : Segment) (read meant : Result (Table
 snapshot_given version segment (Ok read) meant gives = ap (snapshot_with version segment) gives
 snapshot_given version segment (Err refusal) meant gives = refused_by_part (snapshot_with version segment) (λ r. refl) refusal meant gives
 
--- what is read from sources is the version that they are sources of
-pub sources_read : (told : Option (List Told)) (limits : Limits) (now passed : ℤ) (version : ℕ) (segment : Segment) (sizes lent : List (Option ℕ)) (read : Result (TableState × ℤ) Refusal) (result : Result Snapshot Refusal)
+-- what is read from a sized segment is its version
+pub sized_read : (told : Option (List Told)) (limits : Limits) (now passed : ℤ) (version : ℕ) (segment : Segment) (sizes lent : List (Option ℕ)) (read : Result (TableState × ℤ) Refusal) (result : Result Snapshot Refusal)
     → passed ≡ now → lent ≡ sizes
     → IfSome told (λ events. AreSized events segment.steps lent → Gives (λ (r : TableState × ℤ). r) read (read_of events limits passed segment))
     → result ≡ snapshot_with version segment read
     → IfSome told (λ events. AreSized events segment.steps sizes → Gives (λ (s : Snapshot). s) result (opened_segment events limits now version segment))
-sources_read None limits now passed version segment sizes lent read result same lends means is_with = tt
-sources_read (Some events) limits now passed version segment sizes lent read result same lends means is_with = λ sized.
+sized_read None limits now passed version segment sizes lent read result same lends means is_with = tt
+sized_read (Some events) limits now passed version segment sizes lent read result same lends means is_with = λ sized.
     gives_same (λ (s : Snapshot). s) result (opened_segment events limits passed version segment) (opened_segment events limits now version segment)
     (ap (λ (n : ℤ). opened_segment events limits n version segment) same)
     (subst (λ (r : Result Snapshot Refusal). Gives (λ (s : Snapshot). s) r (opened_segment events limits passed version segment)) (sym is_with)
@@ -185,19 +185,19 @@ pub read_version : (version : ℕ) (segment : Segment) (read : Result (TableStat
 read_version version segment (Ok read) result is_with = subst (λ (r : Result Snapshot Refusal). IfOk r (λ (s : Snapshot). s.version ≡ version)) (sym is_with) refl
 read_version version segment (Err other) result is_with = subst (λ (r : Result Snapshot Refusal). IfOk r (λ (s : Snapshot). s.version ≡ version)) (sym is_with) tt
 
--- sources by a listing of the events give the asked version
-pub listed_opened : {X : Type 0} (view : X → Snapshot) (told : Option (List Told)) (listing : Catalogued) (limits : Limits) (at : Option ℕ) (choice : Choice) (now passed : ℤ) (sources : Sources) (result : Result X Refusal) → passed ≡ now
-    → ((events : List Told) → IsListingOf events listing → AreSources events at choice (Ok sources))
-    → IfSome told (λ events. AreSized events sources.segment.steps sources.sizes.items → Gives view result (opened_segment events limits passed sources.version sources.segment))
+-- a sized segment by a listing of the events gives the asked version
+pub listed_opened : {X : Type 0} (view : X → Snapshot) (told : Option (List Told)) (listing : Catalogued) (limits : Limits) (at : Option ℕ) (choice : Choice) (now passed : ℤ) (sized_segment : SizedSegment) (result : Result X Refusal) → passed ≡ now
+    → ((events : List Told) → IsListingOf events listing → IsSizedSegmentAt events at choice (Ok sized_segment))
+    → IfSome told (λ events. AreSized events sized_segment.segment.steps sized_segment.sizes.items → Gives view result (opened_segment events limits passed sized_segment.version sized_segment.segment))
     → IfSome told (λ events. IsListingOf events listing → Gives view result (opened events limits at choice now))
-listed_opened view None listing limits at choice now passed sources result moment found means = tt
-listed_opened view (Some events) listing limits at choice now passed sources result moment found means = λ is.
-    let are : AreSources events at choice (Ok sources) = found events is in
-    gives_same view result (opened_segment events limits passed sources.version sources.segment) (opened events limits at choice now)
+listed_opened view None listing limits at choice now passed sized_segment result moment found means = tt
+listed_opened view (Some events) listing limits at choice now passed sized_segment result moment found means = λ is.
+    let are : IsSizedSegmentAt events at choice (Ok sized_segment) = found events is in
+    gives_same view result (opened_segment events limits passed sized_segment.version sized_segment.segment) (opened events limits at choice now)
     (sym (are.0 limits passed) ∙ ap (λ (n : ℤ). opened events limits at choice n) moment) (means are.1)
 
 pub listed_refused : (told : Option (List Told)) (listing : Catalogued) (limits : Limits) (at : Option ℕ) (choice : Choice) (now : ℤ) (refusal : Refusal)
-    → ((events : List Told) → IsListingOf events listing → AreSources events at choice (Err refusal))
+    → ((events : List Told) → IsListingOf events listing → IsSizedSegmentAt events at choice (Err refusal))
     → IfSome told (λ events. IsListingOf events listing → Refuses refusal (opened events limits at choice now))
 listed_refused None listing limits at choice now refusal found = tt
 listed_refused (Some events) listing limits at choice now refusal found = λ is. found events is limits now

@@ -4,9 +4,8 @@ use Rattle.dk_store.specs.Told.{Told}
 use Rattle.dk_store.specs.Listing.{listing}
 use Rattle.dk_store.specs.Objects.{content}
 use Rattle.dk_store.specs.Standings.{standing}
+use Rattle.dk_listing.specs.Newest.{checkpoint_version}
 use Rattle.dk_listing.specs.Sizes.{stored_size}
-use Rattle.dk_paths.specs.declared.log_name.LogName.{LogName}
-use Rattle.dk_paths.specs.declared.log_name.LogName.TheVariants.{Commit, Classic, Part, V2Json, V2Parquet, Compacted, Hint, Other}
 use Rattle.dk_model.specs.declared.action.Action.{Action}
 use Rattle.dk_model.specs.CommitText.{commit_of}
 use Rattle.dk_paths.specs.Names.{commit_path, name_of}
@@ -17,17 +16,6 @@ pub record IsLog (events : List Told) (log : List (List Action)) : Type 0 where
   pub small : length log ≤ 2 ^ 63
   pub each : (version : ℕ) → version < length log → option_and_then commit_of (content events (commit_path version)) ≡ slice_get log version
   pub last : (version : ℕ) → length log ≤ version → version < 2 ^ 63 → content events (commit_path version) ≡ None
-
--- the version of a checkpoint's object, by its name
-abbrev pub checkpoint_version : LogName → Option ℕ
-checkpoint_version (Commit version) = None
-checkpoint_version (Classic version) = Some version
-checkpoint_version (Part version part parts) = Some version
-checkpoint_version (V2Json version id) = Some version
-checkpoint_version (V2Parquet version id) = Some version
-checkpoint_version (Compacted first last) = None
-checkpoint_version Hint = None
-checkpoint_version Other = None
 
 abbrev pub IsBelow : ℕ → Option ℕ → Type 0
 IsBelow count version = IfSome version (λ v. v < count)

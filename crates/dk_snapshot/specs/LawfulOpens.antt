@@ -1,7 +1,10 @@
 -- What opens of a lawful log, by its history (Delta Lake's PROTOCOL.md, "Delta Log Entries", "Checkpoints", "Catalog-managed tables").
-use Rattle.std.specs.Prelude.{ℕ, zero, suc, ℤ, ◌≡◌, ◌<◌, ◌≤◌, ◌+◌, ◌⊎◌, List, [], ◌∷◌, Option, Some, None, Result, Ok, Err, IfSome}
+use Rattle.std.specs.Prelude.{ℕ, zero, suc, ℤ, ◌≡◌, ◌<◌, ◌≤◌, ◌+◌, ◌⊎◌, List, [], ◌∷◌, Option, Some, None, Result, Ok, Err, IfSome, IsSome}
 use Rattle.std.specs.List.{AllByRecursion}
 use Rattle.dk_model.specs.declared.action.Metadata.{Metadata}
+use Rattle.dk_model.specs.declared.action.Protocol.{Protocol}
+use Rattle.dk_model.specs.declared.state.TableState.{TableState}
+use Rattle.dk_features.specs.Support.{unread_name}
 use Rattle.dk_store.specs.Told.{Told}
 use Rattle.dk_store.specs.Standings.{standing}
 use Rattle.dk_paths.specs.Names.{commit_path}
@@ -12,7 +15,8 @@ use Rattle.dk_lawful.specs.Agree.{Agree}
 use Rattle.dk_lawful.specs.Floor.{FromFloor}
 use Rattle.dk_lawful.specs.History.{next_version, table_at}
 use Rattle.dk_lawful.specs.Lawful.{Lawful}
-use Rattle.dk_lawful.specs.Segments.{IsKept, first_gap, segment_of}
+use Rattle.dk_lawful.specs.SoFar.{awaited}
+use Rattle.dk_lawful.specs.Segments.{HasAllCommits, commit_gap, commit_segment}
 use Rattle.dk_engine.specs.declared.limits.Limits.{Limits}
 use Rattle.dk_engine.specs.declared.limits.Which.TheVariants.{Object}
 use Rattle.dk_engine.specs.declared.refusal.Refusal.{Refusal}
@@ -20,9 +24,9 @@ use Rattle.dk_engine.specs.declared.refusal.Refusal.TheVariants.{Limit, Missing,
 use Rattle.dk_listing.specs.OfEvents.{stands_at, latest}
 use Rattle.dk_listing.specs.Sizes.{stored_size}
 use Rattle.dk_snapshot.specs.declared.table.Snapshot.{Snapshot}
-use Rattle.dk_snapshot.specs.Opening.{opened}
+use Rattle.dk_snapshot.specs.Opens.{Opens}
 use Rattle.dk_snapshot.specs.Steps.{oldest_path, step_path}
-use Rattle.dk_snapshot.specs.Support.{retention, cut_before, cut_of}
+use Rattle.dk_snapshot.specs.Support.{retention_key, retention, cut_before, cut_of}
 
 -- ---- versions
 
@@ -42,23 +46,28 @@ AsksVersion events (Some asked) version = (version ≡ asked) × (version < next
 
 -- no commit that the version needs is missing
 abbrev pub IsKeptBy : List Told → ℕ → Choice → Type 0
-IsKeptBy events version choice = IsKept (stands_at events) (standing events) version choice
+IsKeptBy events version choice = HasAllCommits (stands_at events) (standing events) version choice
 
 -- what the version is read from
 abbrev pub segment_by : List Told → ℕ → Choice → Segment
-segment_by events version choice = segment_of (stands_at events) (standing events) version choice
+segment_by events version choice = commit_segment (stands_at events) (standing events) version choice
 
 -- ---- a version that is answered
 
 -- it is the asked one, the history has it, and it is kept
 abbrev pub OpenedIsAsked : Type 0
 OpenedIsAsked = (events : List Told) (horizon : ℤ) (limits : Limits) (at : Option ℕ) (choice : Choice) (now : ℤ) (snapshot : Snapshot) → Lawful events horizon
-    → opened events limits at choice now ≡ Ok snapshot → AsksVersion events at snapshot.version × IsKeptBy events snapshot.version choice
+    → Opens events limits at choice now (Ok snapshot) → AsksVersion events at snapshot.version × IsKeptBy events snapshot.version choice
 
--- its state is that of the history's commits up to it, as long as segments are made of commits alone
+-- its state is that of the history's commits up to it, but that tombstones may lack whose time isn't above the horizon
+abbrev pub OpenedAgrees : Type 0
+OpenedAgrees = (events : List Told) (horizon : ℤ) (limits : Limits) (at : Option ℕ) (choice : Choice) (now : ℤ) (snapshot : Snapshot) → Lawful events horizon
+    → Opens events limits at choice now (Ok snapshot) → Agree snapshot.state (table_at events snapshot.version) horizon
+
+-- and exactly that, as long as segments are made of commits alone
 abbrev pub OpenedIsTable : Type 0
 OpenedIsTable = (events : List Told) (horizon : ℤ) (limits : Limits) (at : Option ℕ) (choice : Choice) (now : ℤ) (snapshot : Snapshot) → Lawful events horizon
-    → opened events limits at choice now ≡ Ok snapshot → snapshot.state ≡ table_at events snapshot.version
+    → Opens events limits at choice now (Ok snapshot) → snapshot.state ≡ table_at events snapshot.version
 
 -- its removed files are told from the moment of the call on, less the time that the table keeps them
 abbrev pub HasCut : Option Metadata → ℤ → ℤ → Type 0
@@ -67,7 +76,21 @@ HasCut (Some metadata) now cut = (kept : ℤ) × (retention metadata ≡ Some ke
 
 abbrev pub OpenedHasCut : Type 0
 OpenedHasCut = (events : List Told) (horizon : ℤ) (limits : Limits) (at : Option ℕ) (choice : Choice) (now : ℤ) (snapshot : Snapshot) → Lawful events horizon
-    → opened events limits at choice now ≡ Ok snapshot → HasCut snapshot.state.metadata now snapshot.cut
+    → Opens events limits at choice now (Ok snapshot) → HasCut snapshot.state.metadata now snapshot.cut
+
+-- the table's text of how long it keeps removed files is no interval, and the refusal names its setting
+abbrev pub RefusesRetention : List ℕ → Option Metadata → Type 0
+RefusesRetention name None = ⊥
+RefusesRetention name (Some metadata) = (name ≡ retention_key) × (retention metadata ≡ None)
+
+-- the table awaits a feature that isn't built so far, and the refusal names what isn't read of it
+abbrev pub RefusesAwaited : List ℕ → Option Protocol → Type 0
+RefusesAwaited name None = ⊥
+RefusesAwaited name (Some protocol) = IsSome (awaited (Some protocol)) × (unread_name protocol ≡ Some name)
+
+-- what is refused of a table of a lawful log
+abbrev pub RefusesTable : List ℕ → TableState → Type 0
+RefusesTable name state = RefusesRetention name state.metadata ⊎ RefusesAwaited name state.protocol
 
 -- ---- a version of the history that is kept
 
@@ -95,12 +118,12 @@ abbrev pub AnswersVersion : List Told → ℤ → Limits → ℤ → ℕ → Seg
 AnswersVersion events horizon limits now version segment (Ok snapshot) = IsVersionOf events horizon limits now version segment snapshot
 AnswersVersion events horizon limits now version segment (Err (Limit Object size)) = IsNewestOver events limits.object segment.steps size
 AnswersVersion events horizon limits now version segment (Err (Unsupported name)) =
-    AreWithinLimit events limits.object segment.steps × (cut_of (oldest_path segment.steps) (table_at events version) now ≡ Err (Unsupported name))
+    AreWithinLimit events limits.object segment.steps × RefusesTable name (table_at events version)
 AnswersVersion events horizon limits now version segment (Err _) = ⊥
 
 abbrev pub KeptIsAnswered : Type 0
-KeptIsAnswered = (events : List Told) (horizon : ℤ) (limits : Limits) (at : Option ℕ) (choice : Choice) (now : ℤ) (version : ℕ) → Lawful events horizon → AsksVersion events at version
-    → IsKeptBy events version choice → AnswersVersion events horizon limits now version (segment_by events version choice) (opened events limits at choice now)
+KeptIsAnswered = (events : List Told) (horizon : ℤ) (limits : Limits) (at : Option ℕ) (choice : Choice) (now : ℤ) (version : ℕ) (result : Result Snapshot Refusal) → Lawful events horizon → AsksVersion events at version
+    → IsKeptBy events version choice → Opens events limits at choice now result → AnswersVersion events horizon limits now version (segment_by events version choice) result
 
 -- as long as no deletion has taken what a version needs, each version of the history is kept, whatever the choice
 abbrev pub UndeletedIsKept : Type 0
@@ -110,23 +133,23 @@ UndeletedIsKept = (events : List Told) (horizon : ℤ) (choice : Choice) (versio
 
 -- a version of the history that isn't kept is refused with the path of its first missing commit
 abbrev pub GapIsMissing : Type 0
-GapIsMissing = (events : List Told) (horizon : ℤ) (limits : Limits) (at : Option ℕ) (choice : Choice) (now : ℤ) (version : ℕ) (path : List ℕ) → Lawful events horizon
-    → AsksVersion events at version → first_gap (stands_at events) (standing events) version choice ≡ Some path → opened events limits at choice now ≡ Err (Missing path)
+GapIsMissing = (events : List Told) (horizon : ℤ) (limits : Limits) (at : Option ℕ) (choice : Choice) (now : ℤ) (version : ℕ) (path : List ℕ) (result : Result Snapshot Refusal) → Lawful events horizon
+    → AsksVersion events at version → commit_gap (stands_at events) (standing events) version choice ≡ Some path → Opens events limits at choice now result → result ≡ Err (Missing path)
 
 -- one above the last version of the history is refused with the last one
 abbrev pub AboveIsNoVersion : Type 0
-AboveIsNoVersion = (events : List Told) (horizon : ℤ) (limits : Limits) (choice : Choice) (now : ℤ) (last version : ℕ) → Lawful events horizon → last + 1 ≡ next_version events → last < version
-    → opened events limits (Some version) choice now ≡ Err (NoVersion last)
+AboveIsNoVersion = (events : List Told) (horizon : ℤ) (limits : Limits) (choice : Choice) (now : ℤ) (last version : ℕ) (result : Result Snapshot Refusal) → Lawful events horizon → last + 1 ≡ next_version events → last < version
+    → Opens events limits (Some version) choice now result → result ≡ Err (NoVersion last)
 
 -- a log with no history lacks its first commit
 abbrev pub EmptyIsMissing : Type 0
-EmptyIsMissing = (events : List Told) (horizon : ℤ) (limits : Limits) (at : Option ℕ) (choice : Choice) (now : ℤ) → Lawful events horizon → next_version events ≡ 0
-    → opened events limits at choice now ≡ Err (Missing (commit_path 0))
+EmptyIsMissing = (events : List Told) (horizon : ℤ) (limits : Limits) (at : Option ℕ) (choice : Choice) (now : ℤ) (result : Result Snapshot Refusal) → Lawful events horizon → next_version events ≡ 0
+    → Opens events limits at choice now result → result ≡ Err (Missing (commit_path 0))
 
 -- ---- each answer
 
--- Each answer has its cause in the history: a version is the asked one and is kept; an object of such a version is over the limit, or its table
--- asks for what isn't read; of a version that isn't kept the first missing commit is named, and of no history the first one; nothing else comes.
+-- Each answer has its cause in the history: a version is the asked one and is kept; an object of such a version is over the limit, or its table's
+-- text of how long it keeps removed files is no interval, or it awaits a feature; of a version that isn't kept the first missing commit is named, and of no history the first one; nothing else comes.
 abbrev pub AnswersHistory : List Told → Limits → Option ℕ → Choice → ℤ → Result Snapshot Refusal → Type 0
 AnswersHistory events limits at choice now (Ok snapshot) =
     AsksVersion events at snapshot.version × IsKeptBy events snapshot.version choice × (snapshot.state ≡ table_at events snapshot.version) × HasCut snapshot.state.metadata now snapshot.cut
@@ -134,11 +157,11 @@ AnswersHistory events limits at choice now (Err (Limit Object size)) =
     (version : ℕ) × AsksVersion events at version × IsKeptBy events version choice × IsNewestOver events limits.object (segment_by events version choice).steps size
 AnswersHistory events limits at choice now (Err (Unsupported name)) =
     (version : ℕ) × AsksVersion events at version × IsKeptBy events version choice × AreWithinLimit events limits.object (segment_by events version choice).steps
-    × (cut_of (oldest_path (segment_by events version choice).steps) (table_at events version) now ≡ Err (Unsupported name))
+    × RefusesTable name (table_at events version)
 AnswersHistory events limits at choice now (Err (Missing path)) =
-    ((version : ℕ) × AsksVersion events at version × (first_gap (stands_at events) (standing events) version choice ≡ Some path)) ⊎ ((next_version events ≡ 0) × (path ≡ commit_path 0))
+    ((version : ℕ) × AsksVersion events at version × (commit_gap (stands_at events) (standing events) version choice ≡ Some path)) ⊎ ((next_version events ≡ 0) × (path ≡ commit_path 0))
 AnswersHistory events limits at choice now (Err (NoVersion last)) = (asked : ℕ) × (at ≡ Some asked) × (last + 1 ≡ next_version events) × (last < asked)
 AnswersHistory events limits at choice now (Err _) = ⊥
 
 abbrev pub EachAnswer : Type 0
-EachAnswer = (events : List Told) (horizon : ℤ) (limits : Limits) (at : Option ℕ) (choice : Choice) (now : ℤ) → Lawful events horizon → AnswersHistory events limits at choice now (opened events limits at choice now)
+EachAnswer = (events : List Told) (horizon : ℤ) (limits : Limits) (at : Option ℕ) (choice : Choice) (now : ℤ) (result : Result Snapshot Refusal) → Lawful events horizon → Opens events limits at choice now result → AnswersHistory events limits at choice now result

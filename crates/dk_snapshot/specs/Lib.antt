@@ -4,12 +4,14 @@ pub mod Plan
 pub mod Versions
 pub mod History
 pub mod Asked
-pub mod Catalogue
+pub mod Surveyed
 pub mod Sizes
 pub mod Steps
 pub mod Opening
+pub mod Opens
 pub mod Effects
-pub mod Sources
+pub mod Refusals
+pub mod SizedSegment
 pub mod LatestVersion
 pub mod KeptVersions
 pub mod LawfulOpens

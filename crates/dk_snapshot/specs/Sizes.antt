@@ -34,5 +34,5 @@ known_behind sizes (Some rest) = known_in_log sizes rest (behind staged_front re
 abbrev pub known_size : Sizes → List ℕ → Option ℕ
 known_size sizes path = known_behind sizes (behind log_front path)
 
-abbrev pub Knows : Sizes → Catalogued → Type 0
-Knows sizes listing = (path : List ℕ) → known_size sizes path ≡ listed_size listing path
+abbrev pub AreSizesOf : Sizes → Catalogued → Type 0
+AreSizesOf sizes listing = (path : List ℕ) → known_size sizes path ≡ listed_size listing path

@@ -1,8 +1,9 @@
 //! Which version is opened.
-ghost use Rattle.std.specs.Prelude.{◌≡◌, ◌<◌, ◌^◌, Err, IfOk, IfSome, List, None, Some, ℕ};
+ghost use Rattle.std.specs.Prelude.{◌≡◌, ◌<◌, ◌^◌, Err, IfErr, IfOk, IfSome, None, Some};
 ghost use Rattle.dk_engine.specs.Answers.{Gives};
 ghost use Rattle.dk_paths.specs.Names.{commit_path};
 ghost use Rattle.dk_snapshot.specs.Asked.{version_asked};
+ghost use Rattle.dk_snapshot.specs.Refusals.{OpenRefuses};
 
 use dk_engine::Refusal;
 use dk_model::Text;
@@ -29,7 +30,7 @@ pub(crate) fn asked_version(
     ensures small { IfOk result (λ version. version < 2 ^ 63) }
     ensures latest { at ≡ None → IfOk result (λ version. Some version ≡ latest) }
     ensures store { result ≡ Err Refusal.Store → ⊥ }
-    ensures taken { (path : List ℕ) → result ≡ Err (Refusal.Taken path) → ⊥ }
+    ensures refusals { IfErr result (OpenRefuses at) }
 {
     let Some(latest) = latest else {
         return Err(missing_first(alloc)?);

@@ -1,6 +1,7 @@
 //! Laws of what a version is, over the events of a store. None of these functions does anything when it runs.
 ghost use Rattle.dk_snapshot.specs.KeptVersions.{NotKeptIsMissing, OpenedIsKept};
-ghost use Rattle.dk_snapshot.specs.LawfulOpens.{AboveIsNoVersion, EachAnswer, EmptyIsMissing, GapIsMissing, KeptIsAnswered, LatestIsLast, OpenedHasCut, OpenedIsAsked, OpenedIsTable, UndeletedIsKept};
+ghost use Rattle.dk_snapshot.specs.LawfulOpens.{AboveIsNoVersion, EachAnswer, EmptyIsMissing, GapIsMissing, KeptIsAnswered, LatestIsLast, OpenedAgrees, OpenedHasCut, OpenedIsAsked, OpenedIsTable, UndeletedIsKept};
+ghost use Rattle.dk_snapshot.specs.Opens.{OpensAsOne, OpensAsSome};
 ghost use Rattle.dk_snapshot.specs.LatestVersion.{LatestIsGreatest, ListedIsGreatest};
 
 /// The latest version of a store's events, and so of a listing of them, is the greatest one that is published, stands
@@ -9,6 +10,13 @@ ghost use Rattle.dk_snapshot.specs.LatestVersion.{LatestIsGreatest, ListedIsGrea
 pub fn latest_is_greatest()
     ensures events { LatestIsGreatest }
     ensures listed { ListedIsGreatest }
+{}
+
+/// Whatever a store holds, a version opens as something, and as one thing alone (Delta Lake's PROTOCOL.md, "Action
+/// Reconciliation").
+pub fn opens_as_one()
+    ensures some { OpensAsSome }
+    ensures one { OpensAsOne }
 {}
 
 /// On any store, lawful or not, a version that is answered is kept: none of the commits that it needs is missing. One that is
@@ -21,15 +29,17 @@ pub fn opened_is_kept()
 /// On a lawful log a version opens exactly where the history has it and it is kept, and its state is that of the history's
 /// commits up to it. Without an asked version it is the last one of the history. Its cut is the moment of the call, less the
 /// time that the table keeps removed files. A version of the history that is kept opens, unless one of its objects is
-/// over the limit or the table asks for what isn't read; so it is never `Missing`, `NoVersion` or `Damaged`. As long as no
-/// deletion has taken what a version needs, each one is kept. One that isn't kept is `Missing` of its first missing commit,
-/// and one above the last is `NoVersion`. Nothing else is answered (Delta Lake's PROTOCOL.md, "Delta Log Entries", "Action
+/// over the limit, or the text of how long the table keeps removed files is no interval, or the table awaits a feature that
+/// isn't built so far: `Unsupported` names that setting or what isn't read. So it is never `Missing`, `NoVersion` or `Damaged`. As long as no deletion has taken what a version needs,
+/// each one is kept. One that isn't kept is `Missing` of its first missing commit, and one above the last is `NoVersion`.
+/// Nothing else is answered (Delta Lake's PROTOCOL.md, "Delta Log Entries", "Action
 /// Reconciliation", "Catalog-managed tables").
 pub fn lawful_opens()
     ensures latest { LatestIsLast }
 
     // what is answered
     ensures asked { OpenedIsAsked }
+    ensures agrees { OpenedAgrees }
     ensures state { OpenedIsTable }
     ensures cut { OpenedHasCut }
 

@@ -4,21 +4,21 @@
 #![tactic(auto)]
 
 mod asked;
-mod catalogue;
 mod folding;
 pub mod laws;
 mod opening;
+mod sized_segment;
 mod sizes;
-mod sources;
 mod steps;
 mod support;
+mod surveying;
 mod table;
 mod usual;
 
-pub use catalogue::survey;
 pub use opening::{open_at, open_listed};
 pub use sizes::step_sizes;
 pub use steps::{oldest_path, read_step};
 pub use support::unreadable;
+pub use surveying::survey;
 pub use table::Snapshot;
 pub use usual::usual_choice;

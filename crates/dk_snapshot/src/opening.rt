@@ -1,21 +1,24 @@
 //! A version of the table.
-ghost use Rattle.std.specs.Prelude.{◌≡◌, ◌≤◌, ◌<◌, ◌^◌, Err, IfOk, IfSome, List, None, Some, reverse, ℕ};
+ghost use Rattle.std.specs.Prelude.{◌≡◌, ◌≤◌, ◌<◌, ◌^◌, Err, IfErr, IfOk, IfSome, List, None, Some, reverse, ℕ};
 ghost use Rattle.std.specs.List.{AllByRecursion};
-ghost use Rattle.dk_store.specs.Causes.{Rose};
+ghost use Rattle.dk_store.specs.Seen.{IfTold};
 ghost use Rattle.dk_model.specs.ReadBack.{HasVersionsInRange};
 ghost use Rattle.dk_model.specs.State.{empty_state, steps};
-ghost use Rattle.dk_engine.specs.Answers.{Gives};
+ghost use Rattle.dk_engine.specs.Answers.{Gives, GivesBy};
+ghost use Rattle.dk_engine.specs.Effects.{OnlyReads};
 ghost use Rattle.dk_listing.specs.Latest.{latest_of};
 ghost use Rattle.dk_listing.specs.OfEvents.{IsListingOf};
 ghost use Rattle.dk_snapshot.specs.Opening.{opened, opened_segment, read_of, snapshot_with, state_read};
+ghost use Rattle.dk_snapshot.specs.Opens.{Opens};
+ghost use Rattle.dk_snapshot.specs.Refusals.{OpenRefuses};
 ghost use Rattle.dk_snapshot.specs.Steps.{AreSized};
 ghost use Rattle.dk_snapshot.specs.Support.{IsComplete};
 
-use crate::catalogue::survey;
 use crate::folding::fold_newest_first;
-use crate::sources::{Sources, find_sources, take_sources};
+use crate::sized_segment::{SizedSegment, find_segment, take_segment};
 use crate::steps::{oldest_path, read_steps};
 use crate::support::cut_of;
+use crate::surveying::survey;
 use crate::table::Snapshot;
 use dk_engine::{JsonHandler, Limits, Refusal};
 use dk_lawful::{Choice, Segment};
@@ -36,7 +39,7 @@ fn state_of(
     ensures means { Gives (λ read. read) result (state_read oldest.now now (steps empty_state (reverse newest_first.items))) }
     ensures complete { IfOk result (λ read. IsComplete read.0) }
     ensures store { result ≡ Err Refusal.Store → ⊥ }
-    ensures taken { (path : List ℕ) → result ≡ Err (Refusal.Taken path) → ⊥ }
+    ensures refusals { IfErr result (OpenRefuses None) }
 {
     let state = fold_newest_first(alloc, newest_first)?;
     match cut_of(alloc, &state, oldest, now) {
@@ -55,12 +58,9 @@ fn read_segment(
     segment: &Segment,
     now: i64,
 ) -> Result<(TableState, i64), Refusal>
-    ensures same { told store.new ≡ told store.old }
-    ensures clashes { clashes store.new ≡ clashes store.old }
-    ensures later { store_faults store.old ≤ store_faults store.new }
-    ensures store { result ≡ Err Refusal.Store → Rose (store_faults store.old) (store_faults store.new) }
-    ensures taken { (path : List ℕ) → result ≡ Err (Refusal.Taken path) → ⊥ }
-    ensures means { IfSome (told store.old) (λ events. AreSized events segment.now.steps sizes.now → Gives (λ read. read) result (read_of events limits now segment.now)) }
+    ensures reads { OnlyReads (seen store.old) (seen store.new) result }
+    ensures refusals { IfErr result (OpenRefuses None) }
+    ensures means { IfTold (seen store.old) (λ events. AreSized events segment.now.steps sizes.now → Gives (λ read. read) result (read_of events limits now segment.now)) }
     ensures complete { IfOk result (λ read. IsComplete read.0) }
 {
     let steps = segment.steps.as_slice();
@@ -89,34 +89,32 @@ fn snapshot_with(
     }
 }
 
-/// Opens the version that is read from these sources.
-fn read_sources(
+/// Opens the version that is read from this segment.
+fn read_sized(
     alloc: Global,
     store: &mut dyn Store,
     json: &mut dyn JsonHandler,
     limits: Limits,
-    sources: Sources,
+    sized_segment: SizedSegment,
     now: i64,
 ) -> Result<Snapshot, Refusal>
-    ensures same { told store.new ≡ told store.old }
-    ensures clashes { clashes store.new ≡ clashes store.old }
-    ensures later { store_faults store.old ≤ store_faults store.new }
-    ensures store { result ≡ Err Refusal.Store → Rose (store_faults store.old) (store_faults store.new) }
-    ensures taken { (path : List ℕ) → result ≡ Err (Refusal.Taken path) → ⊥ }
-    ensures means { IfSome (told store.old) (λ events. AreSized events sources.segment.steps sources.sizes.items → Gives (λ snapshot. snapshot) result (opened_segment events limits now sources.version sources.segment)) }
+    ensures reads { OnlyReads (seen store.old) (seen store.new) result }
+    ensures refusals { IfErr result (OpenRefuses None) }
+    ensures means { IfTold (seen store.old) (λ events. AreSized events sized_segment.segment.steps sized_segment.sizes.items → Gives (λ snapshot. snapshot) result (opened_segment events limits now sized_segment.version sized_segment.segment)) }
     ensures complete { IfOk result (λ snapshot. IsComplete snapshot.state) }
-    ensures version { IfOk result (λ snapshot. snapshot.version ≡ sources.version) }
+    ensures version { IfOk result (λ snapshot. snapshot.version ≡ sized_segment.version) }
 {
-    let Sources {
+    let SizedSegment {
         version,
         segment,
         sizes,
-    } = sources;
+    } = sized_segment;
     let read = read_segment(alloc, store, json, limits, &sizes, &segment, now);
     snapshot_with(version, segment, read)
 }
 
-/// Opens the asked version, or the latest one, by the listing that a survey found. Refused as [`open_at`] is.
+/// Opens the asked version, or the latest one, by the listing that a survey of this store found (Delta Lake's PROTOCOL.md,
+/// "Delta Log Entries", "Action Reconciliation"). It lists nothing, and is refused as [`open_at`] is.
 pub fn open_listed(
     alloc: Global,
     store: &mut dyn Store,
@@ -127,19 +125,16 @@ pub fn open_listed(
     choice: &Choice,
     now: i64,
 ) -> Result<Snapshot, Refusal>
-    ensures same { told store.new ≡ told store.old }
-    ensures clashes { clashes store.new ≡ clashes store.old }
-    ensures later { store_faults store.old ≤ store_faults store.new }
-    ensures store { result ≡ Err Refusal.Store → Rose (store_faults store.old) (store_faults store.new) }
-    ensures taken { (path : List ℕ) → result ≡ Err (Refusal.Taken path) → ⊥ }
-    ensures means { IfSome (told store.old) (λ events. IsListingOf events listing.now → Gives (λ snapshot. snapshot) result (opened events limits at choice.now now)) }
+    ensures reads { OnlyReads (seen store.old) (seen store.new) result }
+    ensures refusals { IfErr result (OpenRefuses at) }
+    ensures means { IfTold (seen store.old) (λ events. IsListingOf events listing.now → GivesBy (λ snapshot. snapshot) result (Opens events limits at choice.now now)) }
     ensures complete { IfOk result (λ snapshot. IsComplete snapshot.state) }
     ensures latest { at ≡ None → IfOk result (λ snapshot. Some snapshot.version ≡ latest_of listing.now) }
     ensures small { IfOk result (λ snapshot. snapshot.version < 2 ^ 63) }
 {
-    match find_sources(alloc, listing, at, choice) {
+    match find_segment(alloc, listing, at, choice) {
         Err(refusal) => Err(refusal),
-        Ok(sources) => read_sources(alloc, store, json, limits, sources, now),
+        Ok(sized_segment) => read_sized(alloc, store, json, limits, sized_segment, now),
     }
 }
 
@@ -155,18 +150,15 @@ fn open_surveyed(
     choice: &Choice,
     now: i64,
 ) -> Result<Snapshot, Refusal>
-    ensures same { told store.new ≡ told store.old }
-    ensures clashes { clashes store.new ≡ clashes store.old }
-    ensures later { store_faults store.old ≤ store_faults store.new }
-    ensures store { result ≡ Err Refusal.Store → Rose (store_faults store.old) (store_faults store.new) }
-    ensures taken { (path : List ℕ) → result ≡ Err (Refusal.Taken path) → ⊥ }
-    ensures means { IfSome (told store.old) (λ events. IsListingOf events listing → Gives (λ snapshot. snapshot) result (opened events limits at choice.now now)) }
+    ensures reads { OnlyReads (seen store.old) (seen store.new) result }
+    ensures refusals { IfErr result (OpenRefuses at) }
+    ensures means { IfTold (seen store.old) (λ events. IsListingOf events listing → Gives (λ snapshot. snapshot) result (opened events limits at choice.now now)) }
     ensures complete { IfOk result (λ snapshot. IsComplete snapshot.state) }
     ensures small { IfOk result (λ snapshot. snapshot.version < 2 ^ 63) }
 {
-    match take_sources(alloc, listing, at, choice) {
+    match take_segment(alloc, listing, at, choice) {
         Err(refusal) => Err(refusal),
-        Ok(sources) => read_sources(alloc, store, json, limits, sources, now),
+        Ok(sized_segment) => read_sized(alloc, store, json, limits, sized_segment, now),
     }
 }
 
@@ -181,6 +173,7 @@ fn open_surveyed(
 /// `Limit` of `Object` where it is greater than `limits.object` bytes or else `Damaged` where it means nothing, `Damaged`
 /// of the oldest object, as a whole, where the table has no protocol or no metadata, and `Unsupported` of the
 /// first reader version or feature that isn't read, of deletion vectors, and of a retention of removed files that is no interval.
+/// Nothing else refuses it, whether the store tells its events or not.
 ///
 /// Over every store, also one that tells no events, the state that is answered has what writers of checkpoints need of it.
 pub fn open_at(
@@ -192,12 +185,9 @@ pub fn open_at(
     choice: &Choice,
     now: i64,
 ) -> Result<Snapshot, Refusal>
-    ensures same { told store.new ≡ told store.old }
-    ensures clashes { clashes store.new ≡ clashes store.old }
-    ensures later { store_faults store.old ≤ store_faults store.new }
-    ensures store { result ≡ Err Refusal.Store → Rose (store_faults store.old) (store_faults store.new) }
-    ensures taken { (path : List ℕ) → result ≡ Err (Refusal.Taken path) → ⊥ }
-    ensures means { IfSome (told store.old) (λ events. Gives (λ snapshot. snapshot) result (opened events limits at choice.now now)) }
+    ensures reads { OnlyReads (seen store.old) (seen store.new) result }
+    ensures refusals { IfErr result (OpenRefuses at) }
+    ensures means { IfTold (seen store.old) (λ events. GivesBy (λ snapshot. snapshot) result (Opens events limits at choice.now now)) }
     ensures complete { IfOk result (λ snapshot. IsComplete snapshot.state) }
     ensures small { IfOk result (λ snapshot. snapshot.version < 2 ^ 63) }
 {

@@ -4,7 +4,7 @@ ghost use Rattle.dk_store.specs.Views.{listed};
 ghost use Rattle.dk_store.specs.Listing.{behind};
 ghost use Rattle.dk_paths.specs.Places.{staged_front};
 ghost use Rattle.dk_listing.specs.Sizes.{listed_size};
-ghost use Rattle.dk_snapshot.specs.Sizes.{HasSizes, Knows, known_in_log, known_size, size_under};
+ghost use Rattle.dk_snapshot.specs.Sizes.{HasSizes, AreSizesOf, known_in_log, known_size, size_under};
 ghost use Rattle.dk_snapshot.specs.Steps.{step_path};
 
 use crate::steps::step_path;
@@ -53,7 +53,7 @@ fn staged_sizes<'a>(
 
 /// The sizes that this listing shows.
 fn sizes_of<'a>(alloc: Global, listing: &'a Catalogued) -> Result<Sizes<'a>, AllocError>
-    ensures { IfOk result (λ sizes. Knows sizes listing.now) }
+    ensures { IfOk result (λ sizes. AreSizesOf sizes listing.now) }
 {
     Ok(Sizes {
         log: log_sizes(alloc, &listing.log)?,
@@ -108,7 +108,8 @@ fn known_sizes<'a>(
     Ok(found)
 }
 
-/// The size of each step's object in bytes, as the listing shows it, in the order of the steps.
+/// The size in bytes of each step's object, as the listing shows it, in the order of the steps; None for an object that isn't
+/// listed. It is refused by want of memory alone.
 pub fn step_sizes<'a>(
     alloc: Global,
     listing: &'a Catalogued,

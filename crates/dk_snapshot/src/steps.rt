@@ -1,14 +1,16 @@
 //! Reading the objects of a segment, from the newest to the oldest.
-ghost use Rattle.std.specs.Prelude.{◌≡◌, ◌≤◌, Err, IfOk, IfSome, IsErrOf, List, option_and_then, option_map, reverse, slice_get, ℕ};
+ghost use Rattle.std.specs.Prelude.{◌≡◌, ◌≤◌, Err, None, IfErr, IfOk, IfSome, IsErrOf, List, option_and_then, option_map, reverse, slice_get, ℕ};
 ghost use Rattle.std.specs.List.{AllByRecursion};
-ghost use Rattle.dk_store.specs.Causes.{Rose};
+ghost use Rattle.dk_store.specs.Seen.{IfTold, StoreReads};
 ghost use Rattle.dk_store.specs.Objects.{content};
 ghost use Rattle.dk_model.specs.CommitText.{reading_of};
 ghost use Rattle.dk_model.specs.ReadBack.{HasVersionsInRange};
 ghost use Rattle.dk_engine.specs.Answers.{Gives};
+ghost use Rattle.dk_engine.specs.Effects.{OnlyReads};
 ghost use Rattle.dk_listing.specs.Sizes.{stored_size};
 ghost use Rattle.dk_snapshot.specs.Effects.{changes_read};
 ghost use Rattle.dk_snapshot.specs.Log.{commit_of_object, meant};
+ghost use Rattle.dk_snapshot.specs.Refusals.{OpenRefuses, ReadRefuses};
 ghost use Rattle.dk_snapshot.specs.Steps.{AreSized, commit_in, commits_of, fits, oldest_path, step_path};
 
 use crate::folding::gather;
@@ -29,7 +31,7 @@ pub(crate) fn step_path(step: &Step) -> &str
 }
 
 /// The path of the oldest object of a segment, by its steps in ascending order of versions; without steps that of the first
-/// commit.
+/// commit. Takes no memory.
 pub fn oldest_path(steps: &[Step]) -> &str
     ensures { result.now ≡ oldest_path steps.now }
 {
@@ -43,7 +45,7 @@ pub fn oldest_path(steps: &[Step]) -> &str
 fn fits(limit: u64, size: Option<u64>) -> Result<(), Refusal>
     ensures means { Gives (λ u. u) result (fits limit size) }
     ensures store { result ≡ Err Refusal.Store → ⊥ }
-    ensures taken { (path : List ℕ) → result ≡ Err (Refusal.Taken path) → ⊥ }
+    ensures refusals { IfErr result ReadRefuses }
 {
     match size {
         Some(size) if size > limit => Err(Refusal::Limit {
@@ -65,7 +67,7 @@ fn read_bytes(
     ensures means { Gives (λ commit. commit) result (meant path.now (reading_of bytes.now)) }
     ensures versions { IfOk result (λ commit. AllByRecursion HasVersionsInRange commit) }
     ensures store { result ≡ Err Refusal.Store → ⊥ }
-    ensures taken { (path : List ℕ) → result ≡ Err (Refusal.Taken path) → ⊥ }
+    ensures refusals { IfErr result ReadRefuses }
 {
     match json.read_commit(alloc, bytes) {
         Ok(commit) => Ok(commit),
@@ -87,7 +89,7 @@ fn read_object(
     ensures means { Gives (λ commit. commit) result (commit_of_object path.now (option_map (λ bytes. bytes.items) object)) }
     ensures versions { IfOk result (λ commit. AllByRecursion HasVersionsInRange commit) }
     ensures store { result ≡ Err Refusal.Store → ⊥ }
-    ensures taken { (path : List ℕ) → result ≡ Err (Refusal.Taken path) → ⊥ }
+    ensures refusals { IfErr result ReadRefuses }
 {
     match object {
         Some(bytes) => read_bytes(alloc, json, path, &bytes),
@@ -99,11 +101,8 @@ fn read_object(
 
 /// An object of the store.
 fn get_object(store: &mut dyn Store, path: &str) -> Result<Option<Vec<u8>>, StoreError>
-    ensures same { told store.new ≡ told store.old }
-    ensures clashes { clashes store.new ≡ clashes store.old }
-    ensures later { store_faults store.old ≤ store_faults store.new }
-    ensures failed { IsErrOf result StoreError.Failed → Rose (store_faults store.old) (store_faults store.new) }
-    ensures found { IfSome (told store.old) (λ events. IfOk result (λ object. option_map (λ bytes. bytes.items) object ≡ content events path.now)) }
+    ensures reads { StoreReads (seen store.old) (seen store.new) result }
+    ensures found { IfTold (seen store.old) (λ events. IfOk result (λ object. option_map (λ bytes. bytes.items) object ≡ content events path.now)) }
 {
     store.get(path)
 }
@@ -115,12 +114,9 @@ fn read_commit(
     json: &mut dyn JsonHandler,
     path: &str,
 ) -> Result<Commit, Refusal>
-    ensures same { told store.new ≡ told store.old }
-    ensures clashes { clashes store.new ≡ clashes store.old }
-    ensures later { store_faults store.old ≤ store_faults store.new }
-    ensures store { result ≡ Err Refusal.Store → Rose (store_faults store.old) (store_faults store.new) }
-    ensures taken { (path : List ℕ) → result ≡ Err (Refusal.Taken path) → ⊥ }
-    ensures means { IfSome (told store.old) (λ events. Gives (λ commit. commit) result (commit_of_object path.now (content events path.now))) }
+    ensures reads { OnlyReads (seen store.old) (seen store.new) result }
+    ensures refusals { IfErr result ReadRefuses }
+    ensures means { IfTold (seen store.old) (λ events. Gives (λ commit. commit) result (commit_of_object path.now (content events path.now))) }
     ensures versions { IfOk result (λ commit. AllByRecursion HasVersionsInRange commit) }
 {
     let object = get_object(store, path)?;
@@ -136,12 +132,9 @@ fn read_within(
     size: Option<u64>,
     limit: u64,
 ) -> Result<Commit, Refusal>
-    ensures same { told store.new ≡ told store.old }
-    ensures clashes { clashes store.new ≡ clashes store.old }
-    ensures later { store_faults store.old ≤ store_faults store.new }
-    ensures store { result ≡ Err Refusal.Store → Rose (store_faults store.old) (store_faults store.new) }
-    ensures taken { (path : List ℕ) → result ≡ Err (Refusal.Taken path) → ⊥ }
-    ensures means { IfSome (told store.old) (λ events. size ≡ stored_size events path.now → Gives (λ commit. commit) result (commit_in events limit path.now)) }
+    ensures reads { OnlyReads (seen store.old) (seen store.new) result }
+    ensures refusals { IfErr result ReadRefuses }
+    ensures means { IfTold (seen store.old) (λ events. size ≡ stored_size events path.now → Gives (λ commit. commit) result (commit_in events limit path.now)) }
     ensures versions { IfOk result (λ commit. AllByRecursion HasVersionsInRange commit) }
 {
     match fits(limit, size) {
@@ -150,9 +143,10 @@ fn read_within(
     }
 }
 
-/// Reads the commit of a step, whose listed size in bytes is this, once. Beside faults of the store and want of memory it is
-/// refused, in this order: `Limit` of `Object` where the size is over the limit, `Missing` where the object is absent,
-/// `Damaged` where it means nothing, with its first bad line.
+/// Reads the commit of a step, whose listed size in bytes is `size`, once (Delta Lake's PROTOCOL.md, "Delta Log Entries",
+/// "Actions"). Beside faults of the store and want of memory it is refused, in this order and by nothing else: `Limit` of
+/// `Object` where the size is over `limit`, in bytes, `Missing` where the object is absent, `Damaged` where it means nothing,
+/// with its first bad line.
 pub fn read_step(
     alloc: Global,
     store: &mut dyn Store,
@@ -161,12 +155,9 @@ pub fn read_step(
     size: Option<u64>,
     limit: u64,
 ) -> Result<Commit, Refusal>
-    ensures same { told store.new ≡ told store.old }
-    ensures clashes { clashes store.new ≡ clashes store.old }
-    ensures later { store_faults store.old ≤ store_faults store.new }
-    ensures store { result ≡ Err Refusal.Store → Rose (store_faults store.old) (store_faults store.new) }
-    ensures taken { (path : List ℕ) → result ≡ Err (Refusal.Taken path) → ⊥ }
-    ensures means { IfSome (told store.old) (λ events. size ≡ stored_size events (step_path step.now) → Gives (λ commit. commit) result (commit_in events limit (step_path step.now))) }
+    ensures reads { OnlyReads (seen store.old) (seen store.new) result }
+    ensures refusals { IfErr result ReadRefuses }
+    ensures means { IfTold (seen store.old) (λ events. size ≡ stored_size events (step_path step.now) → Gives (λ commit. commit) result (commit_in events limit (step_path step.now))) }
     ensures versions { IfOk result (λ commit. AllByRecursion HasVersionsInRange commit) }
 {
     read_within(alloc, store, json, step_path(step), size, limit)
@@ -192,12 +183,9 @@ pub(crate) fn read_steps(
     sizes: &[Option<u64>],
     limit: u64,
 ) -> Result<Vec<Action>, Refusal>
-    ensures same { told store.new ≡ told store.old }
-    ensures clashes { clashes store.new ≡ clashes store.old }
-    ensures later { store_faults store.old ≤ store_faults store.new }
-    ensures store { result ≡ Err Refusal.Store → Rose (store_faults store.old) (store_faults store.new) }
-    ensures taken { (path : List ℕ) → result ≡ Err (Refusal.Taken path) → ⊥ }
-    ensures means { IfSome (told store.old) (λ events. AreSized events steps.now sizes.now → Gives (λ found. reverse found.items) result (changes_read (commits_of events limit steps.now))) }
+    ensures reads { OnlyReads (seen store.old) (seen store.new) result }
+    ensures refusals { IfErr result (OpenRefuses None) }
+    ensures means { IfTold (seen store.old) (λ events. AreSized events steps.now sizes.now → Gives (λ found. reverse found.items) result (changes_read (commits_of events limit steps.now))) }
     ensures versions { IfOk result (λ found. AllByRecursion HasVersionsInRange (reverse found.items)) }
 {
     let mut found = Vec::new(alloc);

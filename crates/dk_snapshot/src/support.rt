@@ -1,6 +1,7 @@
 //! Which states are opened, and from which moment on their removed files are still told.
-ghost use Rattle.std.specs.Prelude.{◌≡◌, ◌≤ℤ◌, ℕ, pos, List, Err, Some, IfOk, IfSome};
+ghost use Rattle.std.specs.Prelude.{◌≡◌, ◌≤ℤ◌, pos, Err, None, Some, IfErr, IfOk, IfSome};
 ghost use Rattle.dk_engine.specs.Answers.{Gives};
+ghost use Rattle.dk_snapshot.specs.Refusals.{OpenRefuses};
 ghost use Rattle.dk_snapshot.specs.Support.{cut_before, cut_of, cut_unless, has_vectors, retention, unreadable};
 
 use dk_engine::Refusal;
@@ -78,7 +79,7 @@ fn cut_with(
 ) -> Result<i64, Refusal>
     ensures means { Gives (λ cut. cut) result (cut_unless (unreadable protocol.now files.now) (retention metadata.now) now) }
     ensures store { result ≡ Err Refusal.Store → ⊥ }
-    ensures taken { (path : List ℕ) → result ≡ Err (Refusal.Taken path) → ⊥ }
+    ensures refusals { IfErr result (OpenRefuses None) }
 {
     if let Some(name) = unreadable(alloc, protocol, files)? {
         return Err(Refusal::Unsupported { name });
@@ -101,7 +102,7 @@ pub(crate) fn cut_of(
 ) -> Result<i64, Refusal>
     ensures means { Gives (λ cut. cut) result (cut_of oldest.now state.now now) }
     ensures store { result ≡ Err Refusal.Store → ⊥ }
-    ensures taken { (path : List ℕ) → result ≡ Err (Refusal.Taken path) → ⊥ }
+    ensures refusals { IfErr result (OpenRefuses None) }
 {
     match (&state.protocol, &state.metadata) {
         (Some(protocol), Some(metadata)) => {

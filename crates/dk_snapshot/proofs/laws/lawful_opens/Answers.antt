@@ -1,7 +1,6 @@
 -- The laws are lemmas.
-use Rattle.dk_snapshot.proofs.EachAnswer as answers
 use Rattle.dk_snapshot.proofs.LastVersion as last
-use Rattle.dk_snapshot.proofs.LawfulOpens as lemmas
+use Rattle.dk_snapshot.proofs.OpenedLaws as lemmas
 use Rattle.dk_snapshot.proofs.Undeleted as undeleted
 use Rattle.dk_snapshot.proofs.laws.lawful_opens.Goals as goal
 
@@ -10,6 +9,9 @@ returns-clause-latest c = last.latest_is_last
 
 pub returns-clause-asked : goal.returns-clause-asked
 returns-clause-asked c = lemmas.opened_is_asked
+
+pub returns-clause-agrees : goal.returns-clause-agrees
+returns-clause-agrees c = lemmas.opened_agrees
 
 pub returns-clause-state : goal.returns-clause-state
 returns-clause-state c = lemmas.opened_is_table
@@ -33,4 +35,4 @@ pub returns-clause-empty : goal.returns-clause-empty
 returns-clause-empty c = lemmas.empty_is_missing
 
 pub returns-clause-each : goal.returns-clause-each
-returns-clause-each c = answers.each_answer
+returns-clause-each c = lemmas.each_answer

@@ -1,5 +1,5 @@
 -- The laws are lemmas.
-use Rattle.dk_snapshot.proofs.KeptVersions as lemmas
+use Rattle.dk_snapshot.proofs.OpenedLaws as lemmas
 use Rattle.dk_snapshot.proofs.laws.opened_is_kept.Goals as goal
 
 pub returns-clause-kept : goal.returns-clause-kept
