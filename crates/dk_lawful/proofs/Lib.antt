@@ -6,6 +6,7 @@ pub mod CommitPlaces
 pub mod CommitsThere
 pub mod ContentLaws
 pub mod ContentsStand
+pub mod CutExample
 pub mod Example
 pub mod ForbiddenCheckpoints
 pub mod HeadRules

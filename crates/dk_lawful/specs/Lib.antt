@@ -10,6 +10,7 @@ pub mod CheckpointSchema
 pub mod Checkpoints
 pub mod ContentLaws
 pub mod Contents
+pub mod CutExample
 pub mod Example
 pub mod Floor
 pub mod History

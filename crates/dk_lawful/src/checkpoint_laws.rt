@@ -4,6 +4,7 @@ ghost use Rattle.std.specs.Prelude.{[], codes, pos, true, ◌∷◌};
 ghost use Rattle.dk_lawful.specs.CheckpointExample.{ClearedFloor, checkpointing, clearing, lacking_text, naming, naming_text, whole_text};
 ghost use Rattle.dk_lawful.specs.CheckpointLaws.{CheckpointMeansOne, PartsStand, ReadPartsStand, ReadTopsStand, TopsStand};
 ghost use Rattle.dk_lawful.specs.ContentLaws.{ClassicMayBeMade, ClassicStands, PartHasShare, PartMayBeMade, ShareComposes, SidecarsHaveFiles, StandingComposes, V2MayBeMade, V2SaysVersion, V2Stands};
+ghost use Rattle.dk_lawful.specs.CutExample.{CutTells};
 ghost use Rattle.dk_lawful.specs.Example.{IsForbidden, example, first_text, managed_text, ratifying, staged_name_1, staging};
 ghost use Rattle.dk_lawful.specs.MoreExamples.{IsLawfulAfter, side_name};
 ghost use Rattle.dk_lawful.specs.RowExample.{RowsMean};
@@ -27,7 +28,8 @@ pub fn checkpoints_stand()
 
 /// What is written of a checkpoint of a well kept state leads back to it, but for tombstones up to the cut: as one object,
 /// as parts of which each has its share, and in the form V2 with any number of sidecars. What stands for such a state
-/// stands for the table's, where these agree, up to the greater of the cut and the horizon.
+/// stands for the table's, where these agree, up to the greater of the cut and the horizon. Of two tombstones on both sides of a
+/// cut the later one alone is written.
 pub fn contents_stand()
     ensures classic { ClassicStands }
     ensures part { PartHasShare }
@@ -36,6 +38,7 @@ pub fn contents_stand()
     ensures sidecars { SidecarsHaveFiles }
     ensures stands { StandingComposes }
     ensures share { ShareComposes }
+    ensures cut { CutTells }
 {}
 
 /// What is written of a checkpoint of a published version may be made, by the state that was opened there and a cut of at

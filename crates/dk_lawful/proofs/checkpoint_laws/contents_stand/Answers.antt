@@ -1,5 +1,6 @@
 -- The laws are lemmas.
 use Rattle.dk_lawful.proofs.ContentLaws as contents
+use Rattle.dk_lawful.proofs.CutExample.{cut_tells}
 use Rattle.dk_lawful.proofs.checkpoint_laws.contents_stand.Goals as goal
 
 pub returns-clause-classic : goal.returns-clause-classic
@@ -22,3 +23,6 @@ returns-clause-stands c = contents.standing_composes
 
 pub returns-clause-share : goal.returns-clause-share
 returns-clause-share c = contents.share_composes
+
+pub returns-clause-cut : goal.returns-clause-cut
+returns-clause-cut c = cut_tells
