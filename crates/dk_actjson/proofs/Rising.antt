@@ -1,7 +1,5 @@
 -- The keys of each table of fields rise.
-use Rattle.std.proofs.Common.{ℕ, ℤ, List, [], ◌∷◌, Option, nat_cmp, refl}
-use Rattle.std.specs.Cmp.Lexicographic.{slice_cmp}
-use Rattle.std.specs.List.Sorted.{IsStrictlySortedBy}
+use Rattle.std.proofs.Common.{ℕ, ℤ, List, [], ◌∷◌, Option, refl}
 use Rattle.serde_json.specs.Data.{Data}
 use Rattle.dk_model.specs.declared.action.Protocol.{Protocol}
 use Rattle.dk_model.specs.declared.action.Metadata.{Metadata}
@@ -11,7 +9,6 @@ use Rattle.dk_model.specs.declared.action.Txn.{Txn}
 use Rattle.dk_model.specs.declared.action.Domain.{Domain}
 use Rattle.dk_model.specs.declared.action.CheckpointMeta.{CheckpointMeta}
 use Rattle.dk_model.specs.declared.action.SidecarRef.{SidecarRef}
-use Rattle.dk_model.specs.Shown.{Field}
 use Rattle.dk_model.specs.ProtocolObject.{protocol_fields}
 use Rattle.dk_model.specs.MetadataObject.{format_fields, metadata_fields}
 use Rattle.dk_model.specs.AddObject.{add_fields}
@@ -20,10 +17,8 @@ use Rattle.dk_model.specs.TxnObject.{txn_fields}
 use Rattle.dk_model.specs.DomainObject.{domain_fields}
 use Rattle.dk_model.specs.InfoObject.{own_info_fields}
 use Rattle.dk_model.specs.CheckpointObjects.{checkpoint_meta_fields, sidecar_fields}
-use Rattle.dk_actjson.proofs.Tokens.{keys_of, rising_from_test}
-
-abbrev pub AreRising : List Field → Type 0
-AreRising fs = IsStrictlySortedBy (slice_cmp nat_cmp) (keys_of fs)
+use Rattle.dk_actjson.specs.Tokens.{keys_of, AreRising}
+use Rattle.dk_actjson.proofs.Tokens.{rising_from_test}
 
 pub protocol_rises : (p : Protocol) → AreRising (protocol_fields p)
 unfolding protocol_fields

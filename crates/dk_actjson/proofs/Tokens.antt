@@ -15,10 +15,7 @@ use Rattle.serde_json.specs.Written.{items_outline, members_outline}
 use Rattle.dk_model.specs.Pairs.{AreKeysRising}
 use Rattle.dk_model.specs.Shown.{Field, text_or_null_data, with_pairs, pairs_data, names_data, with_field, with_fields, object_with}
 use Rattle.json.specs.Written.{Written}
-use Rattle.dk_actjson.specs.Tokens.{HasTokens, tokens_of, after_field, after_fields, after_pairs, after_names}
-
-abbrev pub keys_of : List Field → List (List ℕ)
-keys_of fs = map (λ f. f.0) fs
+use Rattle.dk_actjson.specs.Tokens.{keys_of, HasTokens, tokens_of, after_field, after_fields, after_pairs, after_names}
 
 -- ---- keys that rise, as a test on literals
 

@@ -5,17 +5,16 @@ ghost use Rattle.std.specs.List.{AllByRecursion};
 ghost use Rattle.std.specs.Str.{IsUtf8};
 ghost use Rattle.json.specs.Print.{print};
 ghost use Rattle.dk_model.specs.CommitText.{commit_of};
+ghost use Rattle.dk_model.specs.ActionKeys.{name_of};
+ghost use Rattle.dk_actjson.specs.Tokens.{object_line};
 ghost use Rattle.dk_model.specs.ReadBack.{IsSound, IsReadable, written_of};
 ghost use Rattle.dk_model.specs.Written.{line_of, written_line, text_of, own_info_line};
 
-use crate::recorded::{checkpoint_meta_member, domain_member, sidecar_member, txn_member};
+use crate::object::{Object, object_field};
 use crate::shown::{close_object, open_object};
-use crate::written::{
-    add_member, metadata_member, own_info_member, protocol_member, remove_member,
-};
+use crate::written::{OwnInfo, Recorded, Removal, Settings};
 use dk_model::{
-    Action, AddFile, Application, CheckpointMeta, Domain, Metadata, Protocol, RemoveFile,
-    SidecarRef, Txn,
+    Action, ActionKey, AddFile, Application, Domain, Metadata, Protocol, RemoveFile, Txn,
 };
 use json::Writer;
 use std::alloc::{AllocError, Global};
@@ -39,89 +38,41 @@ fn end_line(out: &mut Vec<u8>, writer: Writer) -> Result<(), AllocError>
     Ok(())
 }
 
-fn protocol_line(alloc: Global, out: &mut Vec<u8>, protocol: &Protocol) -> Result<(), AllocError>
-    ensures text { OnOk result (out.new.items ≡ out.old.items ++ line_of (Action.Protocol protocol.now)) }
-    ensures utf8 { OnOk result (IsUtf8 (line_of (Action.Protocol protocol.now))) }
-{
-    let mut writer = start_line(alloc, out);
-    open_object(&mut writer)?;
-    protocol_member(&mut writer, protocol)?;
-    close_object(&mut writer)?;
-    end_line(out, writer)?;
-    Ok(())
-}
-
-fn metadata_line(alloc: Global, out: &mut Vec<u8>, metadata: &Metadata) -> Result<(), AllocError>
-    ensures text { OnOk result (out.new.items ≡ out.old.items ++ line_of (Action.Metadata metadata.now)) }
-    ensures utf8 { OnOk result (IsUtf8 (line_of (Action.Metadata metadata.now))) }
-{
-    let mut writer = start_line(alloc, out);
-    open_object(&mut writer)?;
-    metadata_member(&mut writer, metadata)?;
-    close_object(&mut writer)?;
-    end_line(out, writer)?;
-    Ok(())
-}
-
-fn add_line(alloc: Global, out: &mut Vec<u8>, file: &AddFile) -> Result<(), AllocError>
-    ensures text { OnOk result (out.new.items ≡ out.old.items ++ line_of (Action.Add file.now)) }
-    ensures utf8 { OnOk result (IsUtf8 (line_of (Action.Add file.now))) }
-{
-    let mut writer = start_line(alloc, out);
-    open_object(&mut writer)?;
-    add_member(&mut writer, file)?;
-    close_object(&mut writer)?;
-    end_line(out, writer)?;
-    Ok(())
-}
-
-/// The line of a removed file, by its parts.
-fn removal_line(
+/// Appends the line of an object under the key of its action.
+fn append_line<O: Object>(
     alloc: Global,
     out: &mut Vec<u8>,
-    path: &str,
-    time: i64,
-    change: bool,
+    key: ActionKey,
+    object: &O,
 ) -> Result<(), AllocError>
-    ensures text { OnOk result (out.new.items ≡ out.old.items ++ line_of (Action.Remove
-        (record { path = path.now; deletion_timestamp = time; data_change = change }))) }
-    ensures utf8 { OnOk result (IsUtf8 (line_of (Action.Remove
-        (record { path = path.now; deletion_timestamp = time; data_change = change })))) }
+    ensures text { OnOk result (out.new.items ≡ out.old.items ++ object_line (name_of key) (O.fields object.now)) }
+    ensures utf8 { OnOk result (IsUtf8 (object_line (name_of key) (O.fields object.now))) }
 {
     let mut writer = start_line(alloc, out);
     open_object(&mut writer)?;
-    remove_member(&mut writer, path, time, change)?;
+    object_field(&mut writer, key.name(), object)?;
     close_object(&mut writer)?;
     end_line(out, writer)?;
     Ok(())
+}
+
+fn removal_of(file: &RemoveFile) -> Removal<'_>
+    ensures path { result.path.now ≡ file.now.path }
+    ensures time { result.time ≡ file.now.deletion_timestamp }
+    ensures change { result.change ≡ file.now.data_change }
+{
+    Removal {
+        path: file.path.as_str(),
+        time: file.deletion_timestamp,
+        change: file.data_change,
+    }
 }
 
 fn remove_line(alloc: Global, out: &mut Vec<u8>, file: &RemoveFile) -> Result<(), AllocError>
     ensures text { OnOk result (out.new.items ≡ out.old.items ++ line_of (Action.Remove file.now)) }
     ensures utf8 { OnOk result (IsUtf8 (line_of (Action.Remove file.now))) }
 {
-    let path = file.path.as_str();
-    removal_line(alloc, out, path, file.deletion_timestamp, file.data_change)
-}
-
-/// The line of an application's version, by its parts.
-fn application_line(
-    alloc: Global,
-    out: &mut Vec<u8>,
-    app_id: &str,
-    application: &Application,
-) -> Result<(), AllocError>
-    ensures text { OnOk result (out.new.items ≡ out.old.items ++ line_of (Action.Txn
-        (record { app_id = app_id.now; version = application.now.version; last_updated = application.now.last_updated }))) }
-    ensures utf8 { OnOk result (IsUtf8 (line_of (Action.Txn
-        (record { app_id = app_id.now; version = application.now.version; last_updated = application.now.last_updated })))) }
-{
-    let mut writer = start_line(alloc, out);
-    open_object(&mut writer)?;
-    txn_member(&mut writer, app_id, application)?;
-    close_object(&mut writer)?;
-    end_line(out, writer)?;
-    Ok(())
+    append_line(alloc, out, ActionKey::Remove, &removal_of(file))
 }
 
 fn txn_line(alloc: Global, out: &mut Vec<u8>, txn: &Txn) -> Result<(), AllocError>
@@ -132,65 +83,23 @@ fn txn_line(alloc: Global, out: &mut Vec<u8>, txn: &Txn) -> Result<(), AllocErro
         version: txn.version,
         last_updated: txn.last_updated,
     };
-    application_line(alloc, out, txn.app_id.as_str(), &application)
-}
-
-/// The line of a domain's settings, by its parts.
-fn settings_line(
-    alloc: Global,
-    out: &mut Vec<u8>,
-    domain: &str,
-    configuration: &str,
-    removed: bool,
-) -> Result<(), AllocError>
-    ensures text { OnOk result (out.new.items ≡ out.old.items ++ line_of (Action.Domain
-        (record { domain = domain.now; configuration = configuration.now; removed = removed }))) }
-    ensures utf8 { OnOk result (IsUtf8 (line_of (Action.Domain
-        (record { domain = domain.now; configuration = configuration.now; removed = removed })))) }
-{
-    let mut writer = start_line(alloc, out);
-    open_object(&mut writer)?;
-    domain_member(&mut writer, domain, configuration, removed)?;
-    close_object(&mut writer)?;
-    end_line(out, writer)?;
-    Ok(())
+    let recorded = Recorded {
+        app_id: txn.app_id.as_str(),
+        application: &application,
+    };
+    append_line(alloc, out, ActionKey::Txn, &recorded)
 }
 
 fn domain_line(alloc: Global, out: &mut Vec<u8>, domain: &Domain) -> Result<(), AllocError>
     ensures text { OnOk result (out.new.items ≡ out.old.items ++ line_of (Action.Domain domain.now)) }
     ensures utf8 { OnOk result (IsUtf8 (line_of (Action.Domain domain.now))) }
 {
-    let name = domain.domain.as_str();
-    let configuration = domain.configuration.as_str();
-    settings_line(alloc, out, name, configuration, domain.removed)
-}
-
-fn checkpoint_meta_line(
-    alloc: Global,
-    out: &mut Vec<u8>,
-    meta: &CheckpointMeta,
-) -> Result<(), AllocError>
-    ensures text { OnOk result (out.new.items ≡ out.old.items ++ line_of (Action.CheckpointMeta meta.now)) }
-    ensures utf8 { OnOk result (IsUtf8 (line_of (Action.CheckpointMeta meta.now))) }
-{
-    let mut writer = start_line(alloc, out);
-    open_object(&mut writer)?;
-    checkpoint_meta_member(&mut writer, meta)?;
-    close_object(&mut writer)?;
-    end_line(out, writer)?;
-    Ok(())
-}
-
-fn sidecar_line(alloc: Global, out: &mut Vec<u8>, sidecar: &SidecarRef) -> Result<(), AllocError>
-    ensures text { OnOk result (out.new.items ≡ out.old.items ++ line_of (Action.Sidecar sidecar.now)) }
-    ensures utf8 { OnOk result (IsUtf8 (line_of (Action.Sidecar sidecar.now))) }
-{
-    let mut writer = start_line(alloc, out);
-    open_object(&mut writer)?;
-    sidecar_member(&mut writer, sidecar)?;
-    close_object(&mut writer)?;
-    end_line(out, writer)?;
-    Ok(())
+    let settings = Settings {
+        domain: domain.domain.as_str(),
+        configuration: domain.configuration.as_str(),
+        removed: domain.removed,
+    };
+    append_line(alloc, out, ActionKey::Domain, &settings)
 }
 
 /// The line of an action, where it has one.
@@ -199,15 +108,15 @@ fn action_line(alloc: Global, out: &mut Vec<u8>, action: &Action) -> Result<(), 
     ensures utf8 { OnOk result (IsUtf8 (written_line action.now)) }
 {
     match action {
-        Action::Protocol(protocol) => protocol_line(alloc, out, protocol),
-        Action::Metadata(metadata) => metadata_line(alloc, out, metadata),
-        Action::Add(file) => add_line(alloc, out, file),
+        Action::Protocol(protocol) => append_line(alloc, out, ActionKey::Protocol, protocol),
+        Action::Metadata(metadata) => append_line(alloc, out, ActionKey::Metadata, metadata),
+        Action::Add(file) => append_line(alloc, out, ActionKey::Add, file),
         Action::Remove(file) => remove_line(alloc, out, file),
         Action::Txn(txn) => txn_line(alloc, out, txn),
         Action::Domain(domain) => domain_line(alloc, out, domain),
         Action::Info(_) | Action::Cdc => Ok(()),
-        Action::CheckpointMeta(meta) => checkpoint_meta_line(alloc, out, meta),
-        Action::Sidecar(sidecar) => sidecar_line(alloc, out, sidecar),
+        Action::CheckpointMeta(meta) => { append_line(alloc, out, ActionKey::CheckpointMeta, meta) }
+        Action::Sidecar(sidecar) => append_line(alloc, out, ActionKey::Sidecar, sidecar),
     }
 }
 
@@ -229,7 +138,7 @@ pub fn append_protocol(
 ) -> Result<(), AllocError>
     ensures { OnOk result (out.new.items ≡ out.old.items ++ line_of (Action.Protocol protocol.now)) }
 {
-    protocol_line(alloc, out, protocol)
+    append_line(alloc, out, ActionKey::Protocol, protocol)
 }
 
 /// Appends the line of a metaData to what `out` holds ("Change Metadata").
@@ -240,14 +149,14 @@ pub fn append_metadata(
 ) -> Result<(), AllocError>
     ensures { OnOk result (out.new.items ≡ out.old.items ++ line_of (Action.Metadata metadata.now)) }
 {
-    metadata_line(alloc, out, metadata)
+    append_line(alloc, out, ActionKey::Metadata, metadata)
 }
 
 /// Appends the line of a file that is added to what `out` holds ("Add File and Remove File").
 pub fn append_add(alloc: Global, out: &mut Vec<u8>, file: &AddFile) -> Result<(), AllocError>
     ensures { OnOk result (out.new.items ≡ out.old.items ++ line_of (Action.Add file.now)) }
 {
-    add_line(alloc, out, file)
+    append_line(alloc, out, ActionKey::Add, file)
 }
 
 /// Appends the line of a file that is removed to what `out` holds ("Add File and Remove File").
@@ -268,7 +177,12 @@ pub fn append_tombstone(
     ensures { OnOk result (out.new.items ≡ out.old.items ++ line_of (Action.Remove
         (record { path = path.now; deletion_timestamp = time; data_change = false }))) }
 {
-    removal_line(alloc, out, path, time, false)
+    let removal = Removal {
+        path,
+        time,
+        change: false,
+    };
+    append_line(alloc, out, ActionKey::Remove, &removal)
 }
 
 /// Appends the line of what an application has recorded last to what `out` holds ("Transaction Identifiers").
@@ -281,7 +195,11 @@ pub fn append_application(
     ensures { OnOk result (out.new.items ≡ out.old.items ++ line_of (Action.Txn
         (record { app_id = app_id.now; version = application.now.version; last_updated = application.now.last_updated }))) }
 {
-    application_line(alloc, out, app_id, application)
+    let recorded = Recorded {
+        app_id,
+        application,
+    };
+    append_line(alloc, out, ActionKey::Txn, &recorded)
 }
 
 /// Appends the line of a domain that stands, with its configuration, to what `out` holds ("Domain Metadata").
@@ -294,7 +212,12 @@ pub fn append_domain(
     ensures { OnOk result (out.new.items ≡ out.old.items ++ line_of (Action.Domain
         (record { domain = domain.now; configuration = configuration.now; removed = false }))) }
 {
-    settings_line(alloc, out, domain, configuration, false)
+    let settings = Settings {
+        domain,
+        configuration,
+        removed: false,
+    };
+    append_line(alloc, out, ActionKey::Domain, &settings)
 }
 
 /// Appends the line in which a transaction speaks of its own commit to what `out` holds ("Commit Provenance Information"): its
@@ -307,12 +230,8 @@ pub fn append_own_info(
 ) -> Result<(), AllocError>
     ensures { OnOk result (out.new.items ≡ out.old.items ++ own_info_line txn_id.now timestamp) }
 {
-    let mut writer = start_line(alloc, out);
-    open_object(&mut writer)?;
-    own_info_member(&mut writer, txn_id, timestamp)?;
-    close_object(&mut writer)?;
-    end_line(out, writer)?;
-    Ok(())
+    let info = OwnInfo { txn_id, timestamp };
+    append_line(alloc, out, ActionKey::Info, &info)
 }
 
 /// Appends the line of an action, and says what the types of its parts keep.

@@ -12,7 +12,7 @@ use Rattle.dk_grammar.specs.PageHeaders.{SpellsHeader}
 use Rattle.dk_grammar.specs.Runs.{AreFirst}
 use Rattle.dk_pqmodel.specs.Shape as shape
 use Rattle.dk_pqmodel.specs.Datum.{Value, flag, int, chars, Entry, Column}
-use Rattle.dk_pqmodel.specs.FilePages.{AreAtIndices, AreFull, IsFull, ByIndices, HoldValues, InPlain, IsDataV1, IsDictionary, IsPage}
+use Rattle.dk_pqmodel.specs.FilePages.{AreAtIndices, AreFull, IsFull, BehindWidth, HoldValues, InPlain, IsDataV1, IsDictionary, IsPage}
 use Rattle.dk_pqmodel.specs.Fits.{fits_leaf}
 use Rattle.dk_pqmodel.specs.Laid.{Path}
 use Rattle.dk_pqmodel.specs.Weight.{text_length}
@@ -59,11 +59,11 @@ as_many_places es places texts h = sym (length-map places (λ place. slice_get e
 
 pub by_places : (es : List Text) (places : List ℕ) (texts : List Text) (width : ℕ) (runs old mid new : List ℕ) → width ≤ 26 → AreFirst width (length places) places runs
     → length runs ≤ 40 + 5 * length places → mid ≡ old ++ width ∷ [] → new ≡ mid ++ runs → AreTheirs es places texts
-    → Adds (ByIndices (map chars es) (map chars texts)) (41 + 5 * length places) old new
+    → Adds (BehindWidth (map chars es) (map chars texts)) (41 + 5 * length places) old new
 by_places es places texts width runs old mid new narrow first size m n h = record {
   part = width ∷ runs;
   added = n ∙ ap (λ bs. bs ++ runs) m ∙ append_assoc old (width ∷ []) runs;
-  is = inr (width, runs, [], places, omega arith, ap (λ bs. width ∷ bs) (sym (append-nil runs)), first, at_indices es places texts h);
+  is = (width, runs, [], places, omega arith, ap (λ bs. width ∷ bs) (sym (append-nil runs)), first, at_indices es places texts h);
   size = omega (arith, size);
 }
 
@@ -193,12 +193,12 @@ plain_page column entries levels body old new both full few values h path =
 
 pub coded_page : (column : LeafColumn) (entries : Column) (es : List Text) (places : List ℕ) (levels body old new : List ℕ) → HoldBoth column entries levels → AreFull (column_at [] column) entries
     → length entries ≤ 2 ^ 26 → leaf_of column.kind ≡ shape.chars → All (FitsEntry (leaf_of column.kind)) entries → AreTheirs es places (texts_in entries)
-    → Adds (ByIndices (map chars es) (map chars (texts_in entries))) (41 + 5 * length places) levels body
+    → Adds (BehindWidth (map chars es) (map chars (texts_in entries))) (41 + 5 * length places) levels body
     → Adds (λ bytes. IsPage (pos 0) (page_parts 0 (length body) (pos 5) (data_numbers (length entries) 8)) body bytes) (45 + length body) old new
     → (path : Path) → Adds (λ bytes. IsDataV1 (column_at path column) (Some (map chars es)) bytes entries) (174 + 15 * length entries) old new
 coded_page column entries es places levels body old new both full few kind fits theirs values h path =
     let same : values_in entries ≡ map chars (texts_in entries) = text_values entries (rw kind at fits) in
-    let held : HoldValues (column_at path column) (Some (map chars es)) (pos 8) (values_in entries) values.part = inr (inr (inr refl, rw (kind, same) values.is)) in
+    let held : HoldValues (column_at path column) (Some (map chars es)) (pos 8) (values_in entries) values.part = inr (inr (inr refl, rw (kind, same) (inr values.is))) in
     let most = adds_data column entries levels body values.part both values.added full few path (Some (map chars es)) 8 (41 + 5 * length places) old new held values.size h in
     let many : length places ≡ length (texts_in entries) = as_many_places es places (texts_in entries) theirs in
     let again : length (values_in entries) ≡ length (texts_in entries) = ap length same ∙ length-map (texts_in entries) chars in

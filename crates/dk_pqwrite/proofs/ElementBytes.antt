@@ -6,8 +6,8 @@ use Rattle.dk_grammar.specs.Thrift.{is_id}
 use Rattle.dk_grammar.specs.Structs.{Listed, SpellsNumberField}
 use Rattle.dk_grammar.specs.Lists.{Either, held, other, is_held, SpellsHeldOr}
 use Rattle.dk_grammar.proofs.WrittenSpellings.{whole_written, binary_written}
-use Rattle.dk_pqmodel.specs.FooterBytes.{SpellsElement, SpellsName}
-use Rattle.dk_pqmodel.specs.Footer.{element_fields}
+use Rattle.dk_pqmodel.specs.FooterBytes.{SpellsName}
+use Rattle.dk_pqwrite.specs.Said.{SpellsElementSaid, element_of}
 use Rattle.dk_thrift.specs.Writing.{Writing, with_bytes, with_struct, with_end}
 use Rattle.dk_pqwrite.specs.FooterSizes.{element_size, name_size}
 use Rattle.dk_pqwrite.specs.Items.{Item, IsSmall, number_item, text_item, optional_items, items_bytes, struct_bytes, with_items}
@@ -45,7 +45,7 @@ abbrev parts : List ℕ → Option ℕ → Option ℕ → Option ℕ → Option 
 parts name repetition physical children converted =
     optional_part 1 physical (optional_part 3 repetition ((pos 4, held name) ∷ optional_part 5 children (optional_part 6 converted [])))
 
-read_back : (name : List ℕ) (repetition physical children converted : Option ℕ) → fields_said name repetition physical children ≡ element_fields (parts name repetition physical children converted)
+read_back : (name : List ℕ) (repetition physical children converted : Option ℕ) → fields_said name repetition physical children converted ≡ element_of (parts name repetition physical children converted)
 read_back name None None None None = refl
 read_back name None None None (Some v) = refl
 read_back name None None (Some c) None = refl
@@ -65,7 +65,7 @@ read_back name (Some r) (Some p) (Some c) (Some v) = refl
 
 pub element_spelled : (name : List ℕ) (repetition physical children converted : Option ℕ) → is_utf8 name ≡ true → length name < 2 ^ 64
     → IsSmall repetition → IsSmall physical → IsSmall children → IsSmall converted
-    → SpellsElement (struct_bytes (element_items name repetition physical children converted)) (fields_said name repetition physical children)
+    → SpellsElementSaid (struct_bytes (element_items name repetition physical children converted)) (fields_said name repetition physical children converted)
 element_spelled name repetition physical children converted utf8 short r p c v = (
   parts name repetition physical children converted,
   struct_spelled spells (element_items name repetition physical children converted) (parts name repetition physical children converted)
@@ -135,5 +135,5 @@ module _ (name : List ℕ) (repetition physical children converted : Option ℕ)
       (optional_short (pos 0) 1 physical from_repetition (6 + (14 + own)) p refl (repetition_within (pos 0) few refl refl) (repetition_within (pos 1) few refl refl)) (omega arith)
 
 pub element_short : (name : List ℕ) (repetition physical children converted : Option ℕ) → length name < 2 ^ 64 → IsSmall repetition → IsSmall physical → IsSmall children → IsSmall converted
-    → length (struct_bytes (element_items name repetition physical children converted)) ≤ element_size (fields_said name repetition physical children)
+    → length (struct_bytes (element_items name repetition physical children converted)) ≤ element_size (fields_said name repetition physical children converted)
 element_short name repetition physical children converted short r p c v = element_within name repetition physical children converted (name_size name) r p c v (name_short name short)

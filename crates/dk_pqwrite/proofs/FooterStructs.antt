@@ -1,16 +1,13 @@
 -- The structs of a footer, as they are written.
-use Rattle.std.proofs.Common.{◌≡◌, ◌<◌, ◌≤◌, ◌+◌, ◌^◌, ℕ, Bool, true, false, ℤ, pos, Option, Some, None, option_map, IfSome, List, [], ◌∷◌, length, refl, lit<, arith, FitsSigned, w64}
-use Rattle.dk_grammar.specs.Thrift.{head}
+use Rattle.std.proofs.Common.{◌≡◌, ◌<◌, ◌≤◌, ◌+◌, ◌^◌, ℕ, Bool, true, false, ℤ, pos, Option, Some, None, option_map, IfSome, List, [], ◌∷◌, length, map, is_some, refl, ◌∙◌, lit<, arith, FitsSigned, w64}
 use Rattle.dk_grammar.specs.Grammar.{SpellsWhole}
-use Rattle.dk_grammar.specs.Nested.{Repeats, SpellsElement, SpellsValue}
 use Rattle.dk_grammar.specs.Structs.{Listed, SpellsNumberField}
-use Rattle.dk_grammar.specs.Lists.{Either, held, other, SpellsEach, SpellsListOf, SpellsHeldOr}
-use Rattle.dk_grammar.specs.declared.thrift.Kind.TheVariants as kinds
+use Rattle.dk_grammar.specs.Lists.{Either, held, other, SpellsListOf, SpellsHeldOr}
 use Rattle.dk_grammar.proofs.WrittenSpellings.{whole_written}
 use Rattle.dk_thrift.specs.Writing.{Writing, IsOpen, with_bytes, with_struct, with_end}
 use Rattle.dk_pqmodel.specs.Laid.{Path}
-use Rattle.dk_pqmodel.specs.Footer.{meta_fields, MetaFields, ChunkFields}
-use Rattle.dk_pqmodel.specs.FooterBytes.{SpellsPath, SpellsMeta, SpellsChunk, SpellsGroup}
+use Rattle.dk_pqmodel.specs.FooterBytes.{SpellsPath}
+use Rattle.dk_pqwrite.specs.Said.{MetaSaid, MetaPart, meta_of, SpellsMetaSaid, ChunkSaid, SpellsChunkSaid, SpellsGroupSaid}
 use Rattle.dk_pqwrite.specs.declared.chunk.Chunk.{Chunk}
 use Rattle.dk_pqwrite.specs.Chunks.{IsFit, path_of_chunk, meta_said, encodings_of}
 use Rattle.dk_pqwrite.specs.Items.{Item, number_item, optional_items, items_bytes, struct_bytes, with_items, Puts, Writes, PutsHeld}
@@ -20,122 +17,110 @@ use Rattle.dk_pqwrite.proofs.Structs.{Says, struct_spelled, at_most, item_short,
 pub fits : (n : ℕ) → n < 2 ^ 63 → FitsSigned w64 (pos n)
 fits n h = record { sfits = h }
 
--- ---- a list of whole numbers is passed over
-
-repeated : (values : List ℤ) (bytes : List ℕ) → SpellsEach SpellsWhole bytes values → Repeats (SpellsElement 31 kinds.Whole) (length values) bytes
-repeated [] bytes s = s
-repeated (z ∷ zs) bytes s = (s.0, (s.1.0, s.1.1, (s.1.2.0, s.1.2.1), repeated zs s.1.0 s.1.3))
-
-pub wholes_passed : (values : List ℤ) (bytes : List ℕ) → SpellsListOf 5 SpellsWhole bytes values → SpellsValue 9 bytes
-wholes_passed values bytes s = (refl, (head (length values) 5, (s.0, (s.1.0, s.1.1, s.1.2, repeated values s.1.0 s.1.3))))
-
 -- ---- ColumnMetaData
 
-abbrev PathPart : Type 0
-PathPart = Either Path ℤ
-
-abbrev meta_spells : ℤ → ℕ → List ℕ → Option PathPart → Type 0
-meta_spells = SpellsHeldOr (pos 3) 9 SpellsPath SpellsNumberField
+abbrev meta_spells : ℤ → ℕ → List ℕ → Option MetaPart → Type 0
+meta_spells = SpellsHeldOr (pos 2) 9 (SpellsListOf 5 SpellsWhole) (SpellsHeldOr (pos 3) 9 SpellsPath SpellsNumberField)
 
 abbrev pub item : ℕ → ℕ → List ℕ → Item
 item id kind bytes = record { id = pos id; kind = kind; bytes = bytes }
 
-abbrev place_part : Option ℕ → Listed PathPart
+abbrev place_part : Option ℕ → Listed MetaPart
 place_part None = []
-place_part (Some n) = (pos 11, other (pos n)) ∷ []
+place_part (Some n) = (pos 11, other (other (pos n))) ∷ []
 
 abbrev IsPlace : Option ℕ → Type 0
 IsPlace place = IfSome place (λ n. (0 < n) × (n < 2 ^ 63))
 
 place_says : (place : Option ℕ) → IsPlace place → Says meta_spells (optional_items 11 6 place) (place_part place)
 place_says None h = refl
-place_says (Some n) h = (Some (other (pos n)), ([], (refl, refl, refl, (refl, (refl, whole_written (pos n) (fits n h.1))), refl)))
+place_says (Some n) h = (Some (other (other (pos n))), ([], (refl, refl, refl, (refl, (refl, (refl, whole_written (pos n) (fits n h.1)))), refl)))
 
 abbrev meta_items : ℕ → List ℕ → List ℕ → ℕ → ℕ → ℕ → Option ℕ → List Item
 meta_items physical encodings path values size first place =
     number_item 1 5 physical ∷ item 2 9 encodings ∷ item 3 9 path ∷ number_item 4 5 0 ∷ number_item 5 6 values ∷ number_item 6 6 size ∷ number_item 7 6 size ∷ number_item 9 6 first
     ∷ optional_items 11 6 place
 
-abbrev meta_parts : ℕ → Path → ℕ → ℕ → ℕ → Option ℕ → Listed PathPart
-meta_parts physical path values size first place =
-    (pos 1, other (pos physical)) ∷ (pos 3, held path) ∷ (pos 4, other (pos 0)) ∷ (pos 5, other (pos values)) ∷ (pos 6, other (pos size)) ∷ (pos 7, other (pos size)) ∷ (pos 9, other (pos first))
+abbrev meta_parts : ℕ → List ℤ → Path → ℕ → ℕ → ℕ → Option ℕ → Listed MetaPart
+meta_parts physical codes path values size first place =
+    (pos 1, other (other (pos physical))) ∷ (pos 2, held codes) ∷ (pos 3, other (held path)) ∷ (pos 4, other (other (pos 0))) ∷ (pos 5, other (other (pos values))) ∷ (pos 6, other (other (pos size))) ∷ (pos 7, other (other (pos size))) ∷ (pos 9, other (other (pos first)))
     ∷ place_part place
 
-meta_says : (physical : ℕ) (encodings path_bytes : List ℕ) (path : Path) (values size first : ℕ) (place : Option ℕ) → physical < 2 ^ 63 → SpellsValue 9 encodings → SpellsPath path_bytes path
+meta_says : (physical : ℕ) (encodings path_bytes : List ℕ) (codes : List ℤ) (path : Path) (values size first : ℕ) (place : Option ℕ) → physical < 2 ^ 63 → SpellsListOf 5 SpellsWhole encodings codes → SpellsPath path_bytes path
     → values < 2 ^ 63 → size < 2 ^ 63 → first < 2 ^ 63 → IsPlace place
-    → Says meta_spells (meta_items physical encodings path_bytes values size first place) (meta_parts physical path values size first place)
-meta_says physical encodings path_bytes path values size first place p e h v s f d = (
-  Some (other (pos physical)),
+    → Says meta_spells (meta_items physical encodings path_bytes values size first place) (meta_parts physical codes path values size first place)
+meta_says physical encodings path_bytes codes path values size first place p e h v s f d = (
+  Some (other (other (pos physical))),
   (
     _,
     (
       refl,
       refl,
       refl,
-      (refl, (refl, whole_written (pos physical) (fits physical p))),
+      (refl, (refl, (refl, whole_written (pos physical) (fits physical p)))),
       (
-        None,
+        Some (held codes),
         (
           _,
           (
             refl,
             refl,
             refl,
-            (refl, (refl, e)),
+            (refl, e),
             (
-              Some (held path),
+              Some (other (held path)),
               (
                 _,
                 (
                   refl,
                   refl,
                   refl,
-                  (refl, h),
+                  (refl, (refl, h)),
                   (
-                    Some (other (pos 0)),
+                    Some (other (other (pos 0))),
                     (
                       _,
                       (
                         refl,
                         refl,
                         refl,
-                        (refl, (refl, whole_written (pos 0) (fits 0 (lit< tt)))),
+                        (refl, (refl, (refl, whole_written (pos 0) (fits 0 (lit< tt))))),
                         (
-                          Some (other (pos values)),
+                          Some (other (other (pos values))),
                           (
                             _,
                             (
                               refl,
                               refl,
                               refl,
-                              (refl, (refl, whole_written (pos values) (fits values v))),
+                              (refl, (refl, (refl, whole_written (pos values) (fits values v)))),
                               (
-                                Some (other (pos size)),
+                                Some (other (other (pos size))),
                                 (
                                   _,
                                   (
                                     refl,
                                     refl,
                                     refl,
-                                    (refl, (refl, whole_written (pos size) (fits size s))),
+                                    (refl, (refl, (refl, whole_written (pos size) (fits size s)))),
                                     (
-                                      Some (other (pos size)),
+                                      Some (other (other (pos size))),
                                       (
                                         _,
                                         (
                                           refl,
                                           refl,
                                           refl,
-                                          (refl, (refl, whole_written (pos size) (fits size s))),
+                                          (refl, (refl, (refl, whole_written (pos size) (fits size s)))),
                                           (
-                                            Some (other (pos first)),
+                                            Some (other (other (pos first))),
                                             (
                                               _,
                                               (
                                                 refl,
                                                 refl,
                                                 refl,
-                                                (refl, (refl, whole_written (pos first) (fits first f))),
+                                                (refl, (refl, (refl, whole_written (pos first) (fits first f)))),
                                                 place_says place d,
                                               ),
                                             ),
@@ -162,16 +147,21 @@ meta_says physical encodings path_bytes path values size first place p e h v s f
   ),
 )
 
-meta_back : (physical : ℕ) (path : Path) (values size first : ℕ) (place : Option ℕ) → (record {
-  physical = Some (pos physical);
-  path = Some path;
-  codec = Some (pos 0);
-  values = Some (pos values);
-  first_page = Some (pos first);
-  dictionary_page = option_map pos place;
-}) ≡ meta_fields (meta_parts physical path values size first place)
-meta_back physical path values size first None = refl
-meta_back physical path values size first (Some n) = refl
+meta_back : (physical : ℕ) (codes : List ℤ) (path : Path) (values size first : ℕ) (place : Option ℕ) → (record {
+  read = record {
+    physical = Some (pos physical);
+    path = Some path;
+    codec = Some (pos 0);
+    values = Some (pos values);
+    first_page = Some (pos first);
+    dictionary_page = option_map pos place;
+  };
+  encodings = Some codes;
+  uncompressed = Some (pos size);
+  compressed = Some (pos size);
+}) ≡ meta_of (meta_parts physical codes path values size first place)
+meta_back physical codes path values size first None = refl
+meta_back physical codes path values size first (Some n) = refl
 
 -- ---- how many bytes it has
 
@@ -207,11 +197,19 @@ meta_short physical encodings path values size first place few short p e h v s f
 abbrev pub With : List Item → Writing → Writing → Type 0
 With items old new = new ≡ with_items items old
 
+said_by : (c : Chunk) (encodings : List ℤ) → encodings ≡ map pos (encodings_of (is_some c.dictionary_page)) → meta_said c ≡ record {
+  read = (meta_said c).read;
+  encodings = Some encodings;
+  uncompressed = Some (pos c.size);
+  compressed = Some (pos c.size);
+}
+said_by c encodings coded = rw coded refl
+
 module _ (c : Chunk) (fit : IsFit c) (old inner a : Writing) (d e f g h i j k new : Writing) (encodings : List ℤ) (few short most : ℕ) where
-  pub meta_added : 70 + few + short ≤ most → c.physical < 2 ^ 63 → IsOpen old → inner ≡ with_struct old → Puts (number_item 1 5 c.physical ∷ []) inner a
+  pub meta_added : 70 + few + short ≤ most → c.physical < 2 ^ 63 → encodings ≡ map pos (encodings_of (is_some c.dictionary_page)) → IsOpen old → inner ≡ with_struct old → Puts (number_item 1 5 c.physical ∷ []) inner a
       → PutsHeld 2 9 (SpellsListOf 5 SpellsWhole) encodings few a d → PutsHeld 3 9 SpellsPath (path_of_chunk c) short d e → Puts (number_item 4 5 0 ∷ []) e f → Puts (number_item 5 6 c.values ∷ []) f g → Puts (number_item 6 6 c.size ∷ []) g h
-      → Puts (number_item 7 6 c.size ∷ []) h i → Puts (number_item 9 6 c.first_page ∷ []) i j → Puts (optional_items 11 6 c.dictionary_page) j k → new ≡ with_end k → Writes SpellsMeta (meta_said c) most old new
-  meta_added room small stands begun first second third fourth fifth sixth seventh eighth ninth ended =
+      → Puts (number_item 7 6 c.size ∷ []) h i → Puts (number_item 9 6 c.first_page ∷ []) i j → Puts (optional_items 11 6 c.dictionary_page) j k → new ≡ with_end k → Writes SpellsMetaSaid (meta_said c) most old new
+  meta_added room small coded stands begun first second third fourth fifth sixth seventh eighth ninth ended =
       let i9 = optional_items 11 6 c.dictionary_page in
       let i8 = number_item 9 6 c.first_page ∷ i9 in
       let i7 = number_item 7 6 c.size ∷ i8 in
@@ -230,15 +228,15 @@ module _ (c : Chunk) (fit : IsFit c) (old inner a : Writing) (d e f g h i j k ne
       let all = meta_items c.physical second.bytes third.bytes c.values c.size c.first_page c.dictionary_page in
       let w1 : With all inner k = items_then (number_item 1 5 c.physical ∷ []) i2 inner a k first.0 w2 in
       let written : new ≡ with_bytes (struct_bytes all) old = struct_ended all old inner k new begun w1 ended in
-      let parts = meta_parts c.physical (path_of_chunk c) c.values c.size c.first_page c.dictionary_page in
+      let parts = meta_parts c.physical encodings (path_of_chunk c) c.values c.size c.first_page c.dictionary_page in
       record {
         more = struct_bytes all;
         written = written;
         spelled = (
           parts,
           struct_spelled meta_spells all parts
-              (meta_says c.physical second.bytes third.bytes (path_of_chunk c) c.values c.size c.first_page c.dictionary_page small (wholes_passed encodings second.bytes second.spelled) third.spelled fit.values fit.size fit.first fit.dictionary),
-          meta_back c.physical (path_of_chunk c) c.values c.size c.first_page c.dictionary_page,
+              (meta_says c.physical second.bytes third.bytes encodings (path_of_chunk c) c.values c.size c.first_page c.dictionary_page small second.spelled third.spelled fit.values fit.size fit.first fit.dictionary),
+          said_by c encodings coded ∙ meta_back c.physical encodings (path_of_chunk c) c.values c.size c.first_page c.dictionary_page,
         );
         size = at_most (struct_bytes all) (70 + few + short) most
             (meta_short c.physical second.bytes third.bytes c.values c.size c.first_page c.dictionary_page few short fit.physical second.size third.size fit.values fit.size fit.first fit.dictionary) room;
@@ -247,16 +245,16 @@ module _ (c : Chunk) (fit : IsFit c) (old inner a : Writing) (d e f g h i j k ne
 
 -- ---- ColumnChunk
 
-abbrev chunk_spells : ℤ → ℕ → List ℕ → Option (Either MetaFields ℤ) → Type 0
-chunk_spells = SpellsHeldOr (pos 3) 12 SpellsMeta SpellsNumberField
+abbrev chunk_spells : ℤ → ℕ → List ℕ → Option (Either MetaSaid ℤ) → Type 0
+chunk_spells = SpellsHeldOr (pos 3) 12 SpellsMetaSaid SpellsNumberField
 
 chunk_short : (bytes : List ℕ) (few : ℕ) → length bytes ≤ few → length (struct_bytes (number_item 2 6 0 ∷ item 3 12 bytes ∷ [])) ≤ 5 + few
 chunk_short bytes few h =
     let s1 = item_short (pos 0) (number_item 2 6 0) (item 3 12 bytes ∷ []) 2 (1 + few + 1) refl (whole_8 0 (lit< tt)) (item_short (pos 2) (item 3 12 bytes) [] few 1 refl h (omega arith)) in
     at_most (struct_bytes (number_item 2 6 0 ∷ item 3 12 bytes ∷ [])) (1 + 2 + (1 + few + 1)) (5 + few) s1 (omega arith)
 
-pub chunk_added : (m : MetaFields) (few most : ℕ) (old inner a b new : Writing) → 5 + few ≤ most → IsOpen old → inner ≡ with_struct old → Puts (number_item 2 6 0 ∷ []) inner a
-    → PutsHeld 3 12 SpellsMeta m few a b → new ≡ with_end b → Writes SpellsChunk (record { metadata = Some m }) most old new
+pub chunk_added : (m : MetaSaid) (few most : ℕ) (old inner a b new : Writing) → 5 + few ≤ most → IsOpen old → inner ≡ with_struct old → Puts (number_item 2 6 0 ∷ []) inner a
+    → PutsHeld 3 12 SpellsMetaSaid m few a b → new ≡ with_end b → Writes SpellsChunkSaid (record { metadata = Some m }) most old new
 chunk_added m few most old inner a b new room stands begun first second ended =
     let all = number_item 2 6 0 ∷ item 3 12 second.bytes ∷ [] in
     let whole : With all inner b = items_then (number_item 2 6 0 ∷ []) (item 3 12 second.bytes ∷ []) inner a b first.0 second.written in
@@ -276,8 +274,8 @@ chunk_added m few most old inner a b new room stands begun first second ended =
 
 -- ---- RowGroup
 
-abbrev group_spells : ℤ → ℕ → List ℕ → Option (Either (List ChunkFields) ℤ) → Type 0
-group_spells = SpellsHeldOr (pos 1) 9 (SpellsListOf 12 SpellsChunk) SpellsNumberField
+abbrev group_spells : ℤ → ℕ → List ℕ → Option (Either (List ChunkSaid) ℤ) → Type 0
+group_spells = SpellsHeldOr (pos 1) 9 (SpellsListOf 12 SpellsChunkSaid) SpellsNumberField
 
 group_short : (bytes : List ℕ) (size rows most : ℕ) → size < 2 ^ 63 → rows < 2 ^ 63 → length bytes ≤ most
     → length (struct_bytes (item 1 9 bytes ∷ number_item 2 6 size ∷ number_item 3 6 rows ∷ [])) ≤ 24 + most
@@ -287,9 +285,9 @@ group_short bytes size rows most small few h =
     let s2 : length (items_bytes (pos 1) i2) ≤ 23 = item_short (pos 1) (number_item 2 6 size) (number_item 3 6 rows ∷ []) 10 12 refl (whole_64 size small) s3 in
     at_most (struct_bytes (item 1 9 bytes ∷ i2)) (1 + most + 23) (24 + most) (item_short (pos 0) (item 1 9 bytes) i2 most 23 refl h s2) (omega arith)
 
-pub group_added : (chunks : List ChunkFields) (size rows short most : ℕ) (old inner a b d new : Writing) → 24 + short ≤ most → size < 2 ^ 63 → rows < 2 ^ 63 → IsOpen old → inner ≡ with_struct old
-    → PutsHeld 1 9 (SpellsListOf 12 SpellsChunk) chunks short inner a → Puts (number_item 2 6 size ∷ []) a b → Puts (number_item 3 6 rows ∷ []) b d → new ≡ with_end d
-    → Writes SpellsGroup (record { columns = Some chunks; rows = Some (pos rows) }) most old new
+pub group_added : (chunks : List ChunkSaid) (size rows short most : ℕ) (old inner a b d new : Writing) → 24 + short ≤ most → size < 2 ^ 63 → rows < 2 ^ 63 → IsOpen old → inner ≡ with_struct old
+    → PutsHeld 1 9 (SpellsListOf 12 SpellsChunkSaid) chunks short inner a → Puts (number_item 2 6 size ∷ []) a b → Puts (number_item 3 6 rows ∷ []) b d → new ≡ with_end d
+    → Writes SpellsGroupSaid (record { columns = Some chunks; bytes = Some (pos size); rows = Some (pos rows) }) most old new
 group_added chunks size rows short most old inner a b d new room small few stands begun first second third ended =
     let i2 = number_item 2 6 size ∷ number_item 3 6 rows ∷ [] in
     let all = item 1 9 first.bytes ∷ i2 in

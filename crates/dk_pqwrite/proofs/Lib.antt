@@ -15,6 +15,8 @@ pub mod OwnPaths
 pub mod OwnTree
 pub mod Packing
 pub mod PageSizes
+pub mod SaidRead
+pub mod SaysBytes
 pub mod SchemaLeaves
 pub mod SchemaSizes
 pub mod Shredded

@@ -1,23 +1,23 @@
 -- The elements of nodes, one behind another.
-use Rattle.std.proofs.Common.{◌≡◌, ◌<◌, ◌≤◌, ◌^◌, ℕ, suc, ◌+◌, Bool, ℤ, pos, Option, Some, None, option_map, option_and_then, List, [], ◌∷◌, ◌++◌, length, drop, get_or, codes, rules, IfSome, Vec, Box, Global, string_bytes, refl, sym, ap, subst, ◌∙◌, arith}
+use Rattle.std.proofs.Common.{◌≡◌, ◌<◌, ◌≤◌, ◌^◌, ℕ, suc, ◌+◌, Bool, true, false, ℤ, pos, Option, Some, None, option_map, option_and_then, List, [], ◌∷◌, ◌++◌, length, drop, get_or, codes, rules, IfSome, Vec, Box, Global, string_bytes, refl, sym, ap, subst, ◌∙◌, arith}
 use Rattle.std.proofs.lemmas.List.{length-append, drop_all, append-nil}
 use Rattle.std.proofs.lemmas.List.Sums.{sum_by-append}
 use Rattle.std.proofs.lemmas.Bool.{lt-ltb}
 use Rattle.dk_thrift.specs.Writing.{Writing, IsOpen}
-use Rattle.dk_pqmodel.specs.Shape.{flag, int32, int64, chars, Shape, leaf, dictionary, Field, field, shape_in, is_nullable}
+use Rattle.dk_pqmodel.specs.Shape.{flag, int32, int64, chars, Shape, leaf, dictionary, Field, field, Fields, no_fields, one_field, shape_in, is_nullable}
 use Rattle.dk_pqmodel.specs.Shape as shape
 use Rattle.dk_pqmodel.specs.NodeView.{fields_of, field_of, shape_of}
-use Rattle.dk_pqmodel.specs.FileSchema.{FileNode, file_node, FileNodes, no_nodes, one_node}
+use Rattle.dk_pqmodel.specs.FileSchema.{FileNode, file_node, FileNodes, no_nodes, one_node, is_repeated}
 use Rattle.dk_pqmodel.specs.FileMeans.{one_if}
-use Rattle.dk_pqmodel.specs.Footer.{Element, ElementFields, count_of, each_of, element_of, flat, flat_of}
-use Rattle.dk_pqmodel.specs.FooterBytes.{SpellsElement}
+use Rattle.dk_pqmodel.specs.Footer.{Element, count_of, each_of, flat, flat_of}
+use Rattle.dk_pqwrite.specs.Said.{ElementSaid, SpellsElementSaid}
 use Rattle.dk_pqmodel.specs.declared.node.Node.{Node}
 use Rattle.dk_pqmodel.specs.declared.node.NodeKind.{NodeKind, Map, the_lemmas}
 use Rattle.dk_pqmodel.specs.declared.node.NodeKind as node
 use Rattle.dk_pqmodel.proofs.NodeViews.{field_of-is, fields_of-drop, shape_of-List, shape_of-Map}
-use Rattle.dk_pqwrite.specs.Written.{written_as, written_in, written_nodes, nodes_at, physical_at}
+use Rattle.dk_pqwrite.specs.Written.{written_as, written_in, written_nodes, nodes_at, physical_at, converted_at}
 use Rattle.dk_pqwrite.specs.FooterSizes.{element_size}
-use Rattle.dk_pqwrite.specs.Elements.{fields_said, children_said, element_said, said, said_of, head_of, IsElementOf, WritesElement, WritesElements, WritesNode, WritesNodes}
+use Rattle.dk_pqwrite.specs.Elements.{fields_said, children_said, converted_said, converted_group, element_said, read_element, said, said_of, head_of, IsElementOf, WritesElement, WritesElements, WritesNode, WritesNodes}
 use Rattle.dk_pqwrite.proofs.Structs.{bytes_behind, none_added, each_behind, one_each}
 
 -- ---- added one behind another
@@ -36,31 +36,31 @@ each_then {A = A} {B = B} f (x ∷ xs) zs ys ws h k = by (f x) (each_of f xs) re
     by (Some y) None g t later = cc
     by (Some y) (Some more) g t later = rw (later more g) (ap (λ o. option_map (λ front. front ++ ws) o) t)
 
-pub elements_then : (fs gs : List ElementFields) (es ds : List Element) (u v w : Writing) → WritesElements fs es u v → WritesElements gs ds v w → WritesElements (fs ++ gs) (es ++ ds) u w
+pub elements_then : (fs gs : List ElementSaid) (es ds : List Element) (u v w : Writing) → WritesElements fs es u v → WritesElements gs ds v w → WritesElements (fs ++ gs) (es ++ ds) u w
 elements_then fs gs es ds u v w first second = record {
   more = first.more ++ second.more;
   written = bytes_behind first.more second.more u v w first.written second.written;
-  spelled = each_behind SpellsElement fs gs first.more second.more first.spelled second.spelled;
+  spelled = each_behind SpellsElementSaid fs gs first.more second.more first.spelled second.spelled;
   size = omega (arith, first.size, second.size, length-append first.more second.more, sum_by-append element_size fs gs);
-  read = each_then element_of fs gs es ds first.read second.read;
+  read = each_then read_element fs gs es ds first.read second.read;
   goes_on = second.goes_on;
 }
 
 pub no_elements : (w : Writing) → IsOpen w → WritesNodes no_nodes w w
 no_elements w h = record { more = []; written = none_added w; spelled = refl; size = omega arith; read = refl; goes_on = h }
 
-pub one_element : (f : ElementFields) (e : Element) (u v : Writing) → element_of f ≡ Some e → WritesElement f u v → WritesElements (f ∷ []) (e ∷ []) u v
+pub one_element : (f : ElementSaid) (e : Element) (u v : Writing) → read_element f ≡ Some e → WritesElement f u v → WritesElements (f ∷ []) (e ∷ []) u v
 one_element f e u v read a = record {
   more = a.more;
   written = a.written;
-  spelled = one_each SpellsElement f a.more a.spelled;
+  spelled = one_each SpellsElementSaid f a.more a.spelled;
   size = omega (arith, a.size);
   read = rw read refl;
   goes_on = a.goes_on;
 }
 
 -- an element, and then its children's
-pub node_added : (name : List ℕ) (r : ℕ) (p : Option ℤ) (ns : FileNodes) (f : ElementFields) (u v w : Writing) → IsElementOf f (file_node name r p ns) → WritesElement f u v → WritesNodes ns v w
+pub node_added : (name : List ℕ) (r : ℕ) (p : Option ℤ) (ns : FileNodes) (f : ElementSaid) (u v w : Writing) → IsElementOf f (file_node name r p ns) → WritesElement f u v → WritesNodes ns v w
     → WritesNode (file_node name r p ns) u w
 node_added name r p ns f u v w is first inner =
     let n = file_node name r p ns in
@@ -88,16 +88,24 @@ map_node f = file_node (codes "key_value") 2 None (one_node key_node (one_node (
 shape_of-Group : (v : Vec Node Global) → shape_of (node.Group v) ≡ shape.group (fields_of v.items)
 shape_of-Group v = search (rules, the_lemmas)
 
-pub list_added : (k : NodeKind) (b : Box Node Global) (n : Node) (f : ElementFields) (u v w : Writing) → k ≡ node.List b → n ≡ b.value → f ≡ fields_said (codes "list") (Some 2) None (Some 1) → WritesElement f u v
+-- a group of fields that stand once is no list and no map
+once : (name : List ℕ) (f : Field) → is_repeated (written_as name f) ≡ false
+once name (field own true s) = refl
+once name (field own false s) = refl
+
+list_said : (f : Field) → fields_said (codes "list") (Some 2) None (Some 1) None ≡ element_said (list_node f)
+list_said f = rw (once (codes "element") f) refl
+
+pub list_added : (k : NodeKind) (b : Box Node Global) (n : Node) (f : ElementSaid) (u v w : Writing) → k ≡ node.List b → n ≡ b.value → f ≡ fields_said (codes "list") (Some 2) None (Some 1) None → WritesElement f u v
     → WritesNode (written_as (codes "element") (field_of n)) v w → WritesNodes (nodes_at (shape_of k)) u w
 list_added k b n f u v w is same named first inner =
     let e = field_of n in
-    let whole = only_added (list_node e) u w (node_added (codes "list") 2 None (one_node (written_as (codes "element") e) no_nodes) f u v w (record { said = named; read = refl }) first
+    let whole = only_added (list_node e) u w (node_added (codes "list") 2 None (one_node (written_as (codes "element") e) no_nodes) f u v w (record { said = named ∙ list_said e; read = refl }) first
     (only_added (written_as (codes "element") e) v w inner)) in
     subst (λ s. WritesNodes (nodes_at s) u w) (ap (λ m. shape.list (field_of m)) same ∙ sym (ap shape_of is ∙ shape_of-List b)) whole
 
-pub map_added : (k : NodeKind) (b : Box Node Global) (n : Node) (f g : ElementFields) (u v w x : Writing) → k ≡ Map b → n ≡ b.value → f ≡ fields_said (codes "key_value") (Some 2) None (Some 2) → WritesElement f u v
-    → g ≡ fields_said (codes "key") (Some 0) (Some 6) None → WritesElement g v w → WritesNode (written_as (codes "value") (field_of n)) w x → WritesNodes (nodes_at (shape_of k)) u x
+pub map_added : (k : NodeKind) (b : Box Node Global) (n : Node) (f g : ElementSaid) (u v w x : Writing) → k ≡ Map b → n ≡ b.value → f ≡ fields_said (codes "key_value") (Some 2) None (Some 2) None → WritesElement f u v
+    → g ≡ fields_said (codes "key") (Some 0) (Some 6) None (Some 0) → WritesElement g v w → WritesNode (written_as (codes "value") (field_of n)) w x → WritesNodes (nodes_at (shape_of k)) u x
 map_added k b n f g u v w x is same named first key second inner =
     let e = field_of n in
     let value = only_added (written_as (codes "value") e) w x inner in
@@ -119,7 +127,7 @@ abbrev IsCount : Option ℕ → Type 0
 IsCount n = IfSome n (λ n. n < 2 ^ 31)
 
 shape_read : (s : Shape) (name : List ℕ) (r : ℕ) → IsCount (children_said (physical_at s) (nodes_at s))
-    → element_of (element_said (file_node name r (physical_at s) (nodes_at s))) ≡ Some (head_of (file_node name r (physical_at s) (nodes_at s)))
+    → read_element (element_said (file_node name r (physical_at s) (nodes_at s))) ≡ Some (head_of (file_node name r (physical_at s) (nodes_at s)))
 shape_read (leaf flag) name r h = refl
 shape_read (leaf int32) name r h = refl
 shape_read (leaf int64) name r h = refl
@@ -131,21 +139,39 @@ shape_read (dictionary f) name r h = refl
 nullable_is : (b : Bool) (n : ℕ) → n ≡ one_if b → pos n ≡ pos (one_if b)
 nullable_is b n e = ap pos e
 
+once_in : (f : Field) → is_repeated (written_in f) ≡ false
+once_in (field own true s) = refl
+once_in (field own false s) = refl
+
+group_plain : (fs : Fields) → converted_group (written_nodes fs) ≡ None
+group_plain no_fields = refl
+group_plain (one_field f no_fields) = rw (once_in f) refl
+group_plain (one_field f (one_field g fs)) = refl
+
+converted_is : (s : Shape) → converted_at s ≡ converted_said (physical_at s) (nodes_at s)
+converted_is (leaf flag) = refl
+converted_is (leaf int32) = refl
+converted_is (leaf int64) = refl
+converted_is (leaf chars) = refl
+converted_is (shape.group fs) = sym (group_plain fs)
+converted_is (shape.list f) = refl
+converted_is (dictionary f) = refl
+
 -- a field's element, from its parts
-field_said : (name : List ℕ) (f : Field) (r : ℕ) (physical children : Option ℕ) → r ≡ one_if (is_nullable f) → option_map pos physical ≡ physical_at (shape_in f)
-    → children ≡ children_said (physical_at (shape_in f)) (nodes_at (shape_in f)) → IsCount children → IsElementOf (fields_said name (Some r) physical children) (written_as name f)
-field_said name (field own b s) r physical children nullable p c small = record {
-  said = rw (nullable, p, c) refl;
+field_said : (name : List ℕ) (f : Field) (r : ℕ) (physical children converted : Option ℕ) → converted ≡ converted_at (shape_in f) → r ≡ one_if (is_nullable f) → option_map pos physical ≡ physical_at (shape_in f)
+    → children ≡ children_said (physical_at (shape_in f)) (nodes_at (shape_in f)) → IsCount children → IsElementOf (fields_said name (Some r) physical children converted) (written_as name f)
+field_said name (field own b s) r physical children converted v nullable p c small = record {
+  said = rw (nullable, p, c, v, converted_is s) refl;
   read = shape_read s name (one_if b) (subst IsCount c small);
 }
 
-pub own_element : (name : List ℕ) (n : Node) (r : ℕ) (physical children : Option ℕ) → r ≡ one_if n.nullable → option_map pos physical ≡ physical_at (shape_of n.kind)
-    → children ≡ children_said (physical_at (shape_of n.kind)) (nodes_at (shape_of n.kind)) → IsCount children → IsElementOf (fields_said name (Some r) physical children) (written_as name (field_of n))
-own_element name n r physical children nullable p c small =
-    subst (λ f. IsElementOf (fields_said name (Some r) physical children) (written_as name f)) (sym (field_of-is n)) (field_said name (field (string_bytes n.name) n.nullable (shape_of n.kind)) r physical children nullable p c small)
+pub own_element : (name : List ℕ) (n : Node) (r : ℕ) (physical children converted : Option ℕ) → converted ≡ converted_at (shape_of n.kind) → r ≡ one_if n.nullable → option_map pos physical ≡ physical_at (shape_of n.kind)
+    → children ≡ children_said (physical_at (shape_of n.kind)) (nodes_at (shape_of n.kind)) → IsCount children → IsElementOf (fields_said name (Some r) physical children converted) (written_as name (field_of n))
+own_element name n r physical children converted v nullable p c small =
+    subst (λ f. IsElementOf (fields_said name (Some r) physical children converted) (written_as name f)) (sym (field_of-is n)) (field_said name (field (string_bytes n.name) n.nullable (shape_of n.kind)) r physical children converted v nullable p c small)
 
 -- a node's element, and those below it
-pub kind_added : (name : List ℕ) (n : Node) (f : ElementFields) (u v w : Writing) → IsElementOf f (written_as name (field_of n)) → WritesElement f u v → WritesNodes (nodes_at (shape_of n.kind)) v w
+pub kind_added : (name : List ℕ) (n : Node) (f : ElementSaid) (u v w : Writing) → IsElementOf f (written_as name (field_of n)) → WritesElement f u v → WritesNodes (nodes_at (shape_of n.kind)) v w
     → WritesNode (written_as name (field_of n)) u w
 kind_added name n f u v w is first inner =
     let same = field_of-is n in

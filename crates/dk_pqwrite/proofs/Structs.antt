@@ -7,6 +7,7 @@ use Rattle.dk_grammar.specs.Grammar.{SpellsList}
 use Rattle.dk_grammar.specs.Spelling.{field_bytes, list_bytes}
 use Rattle.dk_grammar.specs.Structs.{Listed, under, SpellsFields, SpellsStruct}
 use Rattle.dk_grammar.specs.Lists.{SpellsEach, SpellsListOf}
+use Rattle.dk_grammar.proofs.ListSpellings.{own_header}
 use Rattle.dk_grammar.proofs.WrittenSpellings.{field_written, end_written, list_written}
 use Rattle.dk_thrift.specs.Writing.{Writing, IsOpen, with_bytes, with_struct, with_field, with_end}
 use Rattle.dk_pqwrite.specs.Items.{Item, items_bytes, struct_bytes, with_items, Writes, PutsHeld}
@@ -161,7 +162,7 @@ pub list_held : {B : Type 0} (id kind count : ℕ) (spells : List ℕ → B → 
 list_held id kind count spells values few most old header counted new room e f same small known a = record {
   bytes = list_bytes count kind ++ a.more;
   written = bytes_behind (list_bytes count kind) a.more header counted new f a.written ∙ ap (with_bytes (list_bytes count kind ++ a.more)) e;
-  spelled = (list_bytes count kind, (a.more, refl, subst (λ n. SpellsList (list_bytes count kind) (head n kind)) same (list_written count kind small known), a.spelled));
+  spelled = (list_bytes count kind, (a.more, refl, own_header kind (length values) (list_bytes count kind) (subst (λ n. SpellsList (list_bytes count kind) (head n kind)) same (list_written count kind small known)), a.spelled));
   size = omega (arith, room, a.size, list_short count kind small, length-append (list_bytes count kind) a.more);
   goes_on = a.goes_on;
 }

@@ -1,5 +1,6 @@
 -- Columns that are written one behind another.
 use Rattle.std.proofs.Common.{◌≡◌, ℕ, ◌+◌, ◌*◌, ◌<◌, ◌≤◌, List, [], ◌∷◌, ◌++◌, length, map, take, drop, get_or, sum_by, Vec, refl, sym, ap, ap₂, subst, ◌∙◌, arith, append_assoc}
+use Rattle.std.specs.List.{flat_map}
 use Rattle.std.specs.declared.alloc.Global.{Global}
 use Rattle.std.proofs.lemmas.List.{append-nil, length-append, map-append, take_more, take_all}
 use Rattle.std.proofs.lemmas.List.Elements.{All-nil, All-push}
@@ -19,7 +20,7 @@ use Rattle.dk_pqwrite.specs.Shredded.{AreWritable}
 use Rattle.dk_pqwrite.specs.Writable.{IsWritable}
 use Rattle.dk_pqwrite.specs.WrittenChunk.{WritesColumn}
 use Rattle.dk_pqwrite.specs.WrittenColumn.{column_at}
-use Rattle.dk_pqwrite.specs.WrittenColumns.{AreHeld, WritesColumns}
+use Rattle.dk_pqwrite.specs.WrittenColumns.{AreHeld, AreSized, WritesColumns}
 use Rattle.dk_pqwrite.proofs.Structs.{drop_next, drop_past}
 
 -- ---- one column more
@@ -38,6 +39,16 @@ more_size : (part more : List ℕ) (cs : List ColumnAt) (ts : List Column) (c : 
 more_size part more cs ts c t h g =
     omega (arith, h, g, length-append part more, length-append cs (c ∷ []), sum_by-append column_bytes ts (t ∷ []), sum_by-cons column_bytes t [])
 
+flat_last : (ps : List (List ℕ)) (p : List ℕ) → flat_map (λ x. x) (ps ++ p ∷ []) ≡ flat_map (λ x. x) ps ++ p
+flat_last [] p = append-nil p
+flat_last (q ∷ ps) p = ap (λ bytes. q ++ bytes) (flat_last ps p) ∙ sym (append_assoc q (flat_map (λ x. x) ps) p)
+
+sized_more : (ks : List Chunk) (ps : List (List ℕ)) (k : Chunk) (p : List ℕ) → AreSized ks ps → k.size ≡ length p → AreSized (ks ++ k ∷ []) (ps ++ p ∷ [])
+sized_more [] [] k p h g = (g, tt)
+sized_more [] (q ∷ ps) k p h g = absurd h
+sized_more (j ∷ ks) [] k p h g = absurd h
+sized_more (j ∷ ks) (q ∷ ps) k p h g = (h.0, sized_more ks ps k p h.1 g)
+
 pub one_more : (cs : List ColumnAt) (ts : List Column) (ks : List Chunk) (c : ColumnAt) (t : Column) (k : Chunk) (old middle new : List ℕ) → WritesColumns cs ts ks old middle → WritesColumn c t k middle new
     → WritesColumns (cs ++ c ∷ []) (ts ++ t ∷ []) (ks ++ k ∷ []) old new
 one_more cs ts ks c t k old middle new h g = record {
@@ -48,6 +59,9 @@ one_more cs ts ks c t k old middle new h g = record {
       held_more (new ++ behind) cs ts ks c t k (subst (λ before. AreHeld before cs ts ks) same (h.held (g.part ++ behind))) (g.held behind);
   paths = map-append path_of_chunk ks (k ∷ []) ∙ ap₂ (λ xs x. xs ++ x ∷ []) h.paths g.path ∙ sym (map-append path_of cs (c ∷ []));
   fit = All-push IsFit ks k h.fit g.fit;
+  parts = h.parts ++ g.part ∷ [];
+  joined = ap (λ bytes. bytes ++ g.part) h.joined ∙ sym (flat_last h.parts g.part);
+  sized = sized_more ks h.parts k g.part h.sized g.bytes;
   size = more_size h.part g.part cs ts c t h.size g.size;
 }
 
@@ -67,6 +81,9 @@ none_written bytes = record {
   held = λ behind. tt;
   paths = refl;
   fit = All-nil IsFit;
+  parts = [];
+  joined = refl;
+  sized = tt;
   size = omega arith;
 }
 

@@ -10,11 +10,12 @@ use Rattle.dk_pqmodel.specs.Fits.{AreRowsOf}
 use Rattle.dk_pqmodel.specs.Footer.{RowGroup}
 use Rattle.dk_pqmodel.specs.Footer as plain
 use Rattle.dk_pqmodel.specs.FooterBytes.{magic}
-use Rattle.dk_pqmodel.specs.FileMeans.{HasColumns, IsShare, FileMeans, columns_of, rows_in}
+use Rattle.dk_pqmodel.specs.FileMeans.{HasColumns, HasRows, FileMeans, columns_of, rows_in}
 use Rattle.dk_pqmodel.specs.FilePages.{ColumnAt}
 use Rattle.dk_pqmodel.specs.Laid.{Path, laid, rows_widened}
 use Rattle.dk_pqmodel.specs.Triples.{triples}
 use Rattle.dk_pqmodel.specs.Weight.{most_bytes}
+use Rattle.dk_pqwrite.specs.Said.{FileSaid}
 use Rattle.dk_pqwrite.specs.declared.chunk.Chunk.{Chunk}
 use Rattle.dk_pqwrite.specs.Chunks.{chunk_view, path_of_chunk}
 use Rattle.dk_pqwrite.specs.Footers.{EndsFile, footer_of, footer_size}
@@ -60,11 +61,11 @@ nothing_behind : (rows : Cells) → appended rows no_cells ≡ rows
 nothing_behind no_cells = refl
 nothing_behind (one_cell row rows) = ap (one_cell row) (nothing_behind rows)
 
-module _ (fs : Fields) (rows : Cells) (count : ℕ) (ks : List Chunk) (before bytes : List ℕ) (is : IsSchema fs) (form : AreRowsOf fs rows) (counted : rows_in rows ≡ count) where
+module _ (fs : Fields) (rows : Cells) (count : ℕ) (ks : List Chunk) (before bytes : List ℕ) (is : IsSchema fs) (form : AreRowsOf fs rows) (counted : rows_in rows ≡ count) (said : FileSaid) where
   abbrev group : RowGroup
   group = record { rows = count; columns = map chunk_view ks }
 
-  share : AreHeld before (columns_of (own_plans fs []) 0 0) (triples fs rows) ks → map path_of_chunk ks ≡ map path_of (columns_of (own_plans fs []) 0 0) → IsShare before (laid fs (written_nodes fs)) group rows
+  share : AreHeld before (columns_of (own_plans fs []) 0 0) (triples fs rows) ks → map path_of_chunk ks ≡ map path_of (columns_of (own_plans fs []) 0 0) → HasRows before (laid fs (written_nodes fs)) group rows
   share held paths = record {
     columns = triples fs rows;
     held = subst (λ plans. HasColumns before group (columns_of plans 0 0) (triples fs rows)) (sym (laid_own fs is))
@@ -73,7 +74,7 @@ module _ (fs : Fields) (rows : Cells) (count : ℕ) (ks : List Chunk) (before by
     count = counted;
   }
 
-  means_rows : AreHeld before (columns_of (own_plans fs []) 0 0) (triples fs rows) ks → map path_of_chunk ks ≡ map path_of (columns_of (own_plans fs []) 0 0) → EndsFile (footer_of fs count ks) before bytes → FileMeans fs bytes rows
+  means_rows : AreHeld before (columns_of (own_plans fs []) 0 0) (triples fs rows) ks → map path_of_chunk ks ≡ map path_of (columns_of (own_plans fs []) 0 0) → EndsFile (footer_of fs count ks) said before bytes → FileMeans fs bytes rows
   means_rows held paths ends = record {
     before = before;
     part = ends.0;
@@ -88,12 +89,12 @@ module _ (fs : Fields) (rows : Cells) (count : ℕ) (ks : List Chunk) (before by
   }
 
 -- the pages of all columns, and a footer of their chunks
-pub file_means : (fs : Fields) (rows : Cells) (count : ℕ) (ks footed : List Chunk) (before bytes : List ℕ) → IsSchema fs → AreRowsOf fs rows → rows_in rows ≡ count
-    → WritesColumns (columns_of (own_plans fs []) 0 0) (triples fs rows) ks magic before → footed ≡ ks → EndsFile (footer_of fs count footed) before bytes → FileMeans fs bytes rows
-file_means fs rows count ks footed before bytes is form counted written same ends =
-    means_rows fs rows count ks before bytes is form counted
+pub file_means : (fs : Fields) (rows : Cells) (count : ℕ) (said : FileSaid) (ks footed : List Chunk) (before bytes : List ℕ) → IsSchema fs → AreRowsOf fs rows → rows_in rows ≡ count
+    → WritesColumns (columns_of (own_plans fs []) 0 0) (triples fs rows) ks magic before → footed ≡ ks → EndsFile (footer_of fs count footed) said before bytes → FileMeans fs bytes rows
+file_means fs rows count said ks footed before bytes is form counted written same ends =
+    means_rows fs rows count ks before bytes is form counted said
     (subst (λ all. AreHeld all (columns_of (own_plans fs []) 0 0) (triples fs rows) ks) (append-nil before) (written.held []))
-    written.paths (subst (λ chunks. EndsFile (footer_of fs count chunks) before bytes) same ends)
+    written.paths (subst (λ chunks. EndsFile (footer_of fs count chunks) said before bytes) same ends)
 
 -- ---- its size
 

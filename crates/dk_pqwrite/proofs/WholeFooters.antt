@@ -17,12 +17,14 @@ use Rattle.dk_pqmodel.specs.Schema.{IsSchema}
 use Rattle.dk_pqmodel.specs.FileMeans.{columns_of}
 use Rattle.dk_pqmodel.specs.NodeView.{fields_of}
 use Rattle.dk_pqmodel.specs.Footer as plain
-use Rattle.dk_pqmodel.specs.Footer.{ElementFields, GroupFields, count_of, flat_of, each_of, element_of, chunk_of, group_of, place_of, ◌>=◌}
-use Rattle.dk_pqmodel.specs.FooterBytes.{SpellsElement, SpellsGroup, SpellsMetaData, SpellsFooter, magic}
+use Rattle.dk_pqmodel.specs.Footer.{count_of, flat_of, each_of, element_of, chunk_of, group_of, place_of, ◌>=◌}
+use Rattle.dk_pqmodel.specs.FooterBytes.{SpellsFooter, magic}
+use Rattle.dk_pqwrite.specs.Said.{ElementSaid, SpellsElementSaid, GroupSaid, SpellsGroupSaid, FileSaid, SpellsFileSaid}
+use Rattle.dk_pqwrite.proofs.SaidRead.{element_read, chunk_read, group_read, file_read, file_found}
 use Rattle.dk_pqmodel.specs.declared.node.Node.{Node}
 use Rattle.dk_pqwrite.specs.declared.chunk.Chunk.{Chunk}
 use Rattle.dk_pqwrite.specs.Chunks.{IsFit, path_of_chunk, chunk_view, chunk_said, group_said}
-use Rattle.dk_pqwrite.specs.Elements.{fields_said, said_of, WritesElement, WritesNodes}
+use Rattle.dk_pqwrite.specs.Elements.{fields_said, read_element, said_of, WritesElement, WritesNodes}
 use Rattle.dk_pqwrite.specs.FooterSizes.{name_size, element_size, chunk_size}
 use Rattle.dk_pqwrite.specs.Footers.{SpellsFields, file_said, root_of, root_said, elements_size, footer_size, PutsSchema, AreColumnsOf, footer_of, EndsFile}
 use Rattle.dk_pqwrite.specs.Items.{number_item, text_item, items_bytes, struct_bytes, Puts, PutsHeld}
@@ -37,19 +39,19 @@ use Rattle.dk_pqwrite.proofs.Structs.{struct_spelled, at_most, item_short, items
 
 -- ---- the schema
 
-pub root_is : (ns : List Node) → fields_said (codes "root") None None (Some (length ns)) ≡ root_said (fields_of ns)
-root_is ns = ap (λ n. fields_said (codes "root") None None (Some n)) (sym (count_is ns))
+pub root_is : (ns : List Node) → fields_said (codes "root") None None (Some (length ns)) None ≡ root_said (fields_of ns)
+root_is ns = ap (λ n. fields_said (codes "root") None None (Some n) None) (sym (count_is ns))
 
 pub root_few : (ns : List Node) → length ns < 2 ^ 31 → count_of (written_nodes (fields_of ns)) < 2 ^ 31
 root_few ns h = subst (λ n. n < 2 ^ 31) (sym (count_is ns)) h
 
-root_read : (fs : Fields) → count_of (written_nodes fs) < 2 ^ 31 → element_of (root_said fs) ≡ Some (root_of fs)
+root_read : (fs : Fields) → count_of (written_nodes fs) < 2 ^ 31 → read_element (root_said fs) ≡ Some (root_of fs)
 root_read fs h = rw (lt-ltb (count_of (written_nodes fs)) (2 ^ 31) h) refl
 
-one_more : (n : ℕ) (xs : List ElementFields) (x : ElementFields) → n ≡ length xs + 1 → n ≡ length (x ∷ xs)
+one_more : (n : ℕ) (xs : List ElementSaid) (x : ElementSaid) → n ≡ length xs + 1 → n ≡ length (x ∷ xs)
 one_more n xs x e = omega (arith, e)
 
-pub schema_added : (fs : Fields) (f : ElementFields) (count : ℕ) (old header counted v new : Writing) → header ≡ with_field (pos 2) 9 old → counted ≡ with_bytes (list_bytes count 12) header
+pub schema_added : (fs : Fields) (f : ElementSaid) (count : ℕ) (old header counted v new : Writing) → header ≡ with_field (pos 2) 9 old → counted ≡ with_bytes (list_bytes count 12) header
     → count ≡ length (said_of (written_nodes fs)) + 1 → count < 2 ^ 32 → f ≡ root_said fs → count_of (written_nodes fs) < 2 ^ 31 → WritesElement f counted v → WritesNodes (written_nodes fs) v new
     → PutsSchema fs old new
 schema_added fs f count old header counted v new e g same small named few first nodes =
@@ -57,7 +59,7 @@ schema_added fs f count old header counted v new e g same small named few first 
     let root = one_element (root_said fs) (root_of fs) counted v (root_read fs few) (subst (λ s. WritesElement s counted v) named first) in
     let all = elements_then (root_said fs ∷ []) (said_of ns) (root_of fs ∷ []) (flat_of ns) counted v new root nodes in
     record {
-      held = list_held 2 12 count SpellsElement (root_said fs ∷ said_of ns) (elements_size fs) (6 + elements_size fs) old header counted new (omega arith) e g
+      held = list_held 2 12 count SpellsElementSaid (root_said fs ∷ said_of ns) (elements_size fs) (6 + elements_size fs) old header counted new (omega arith) e g
           (one_more count (said_of ns) (root_said fs) same) small refl (record { more = all.more; written = all.written; spelled = all.spelled; size = all.size; goes_on = all.goes_on });
       read = all.read;
     }
@@ -74,10 +76,10 @@ place_again (Some n) h = rw (above n h.0) refl
     above : (n : ℕ) → 0 < n → (n == 0) ≡ false
     above n h = ne_eqb n 0 (λ same. (omega (arith, same, h)))
 
-chunk_again : (c : Chunk) → IsFit c → chunk_of (chunk_said c) ≡ Some (chunk_view c)
+chunk_again : (c : Chunk) → IsFit c → chunk_of (chunk_read (chunk_said c)) ≡ Some (chunk_view c)
 chunk_again c fit = rw (small_type c.physical fit.physical, place_again c.dictionary_page fit.dictionary) refl
 
-chunks_again : (cs : List Chunk) → AllByRecursion IsFit cs → each_of chunk_of (map chunk_said cs) ≡ Some (map chunk_view cs)
+chunks_again : (cs : List Chunk) → AllByRecursion IsFit cs → each_of chunk_of (map chunk_read (map chunk_said cs)) ≡ Some (map chunk_view cs)
 chunks_again [] h = refl
 chunks_again (c ∷ cs) h = rw (chunk_again c h.0, chunks_again cs h.1) refl
 
@@ -85,16 +87,16 @@ paths_are : (cs : List Chunk) → map path_in (map chunk_view cs) ≡ map path_o
 paths_are [] = refl
 paths_are (c ∷ cs) = ap (λ ps. path_of_chunk c ∷ ps) (paths_are cs)
 
-group_again : (fs : Fields) (rows : ℕ) (cs : List Chunk) → IsSchema fs → All IsFit cs → AreColumnsOf fs cs → group_of (group_said cs rows) ≡ Some (record { rows = rows; columns = map chunk_view cs })
-group_again fs rows cs is fit columns = rw (chunks_again cs (recursion_from_All IsFit cs fit), chunks_distinct fs (map chunk_view cs) is (paths_are cs ∙ columns)) refl
+group_again : (fs : Fields) (rows size : ℕ) (cs : List Chunk) → IsSchema fs → All IsFit cs → AreColumnsOf fs cs → group_of (group_read (group_said cs size rows)) ≡ Some (record { rows = rows; columns = map chunk_view cs })
+group_again fs rows size cs is fit columns = rw (chunks_again cs (recursion_from_All IsFit cs fit), chunks_distinct fs (map chunk_view cs) is (paths_are cs ∙ columns)) refl
 
 -- ---- the whole
 
 abbrev Groups : Type 0
-Groups = Either (List GroupFields) ℤ
+Groups = Either (List GroupSaid) ℤ
 
-abbrev file_spells : ℤ → ℕ → List ℕ → Option (Either (List ElementFields) Groups) → Type 0
-file_spells = SpellsHeldOr (pos 2) 9 (SpellsListOf 12 SpellsElement) (SpellsHeldOr (pos 4) 9 (SpellsListOf 12 SpellsGroup) SpellsNumberField)
+abbrev file_spells : ℤ → ℕ → List ℕ → Option (Either (List ElementSaid) Groups) → Type 0
+file_spells = SpellsHeldOr (pos 2) 9 (SpellsListOf 12 SpellsElementSaid) (SpellsHeldOr (pos 4) 9 (SpellsListOf 12 SpellsGroupSaid) SpellsNumberField)
 
 abbrev empty : Writing
 empty = record { bytes = []; structs = [] }
@@ -118,13 +120,13 @@ file_short rows schema groups author few short small known h k =
     sum_is few short own = omega arith
 
 -- The bytes of a FileMetaData spell it, and are no more than so many.
-pub record IsFile (elements : List ElementFields) (rows : ℕ) (groups : List GroupFields) (most : ℕ) (bytes : List ℕ) : Type 0 where
-  pub spelled : SpellsMetaData bytes (record { schema = Some elements; rows = Some (pos rows); groups = Some groups })
+pub record IsFile (elements : List ElementSaid) (rows : ℕ) (groups : List GroupSaid) (most : ℕ) (bytes : List ℕ) : Type 0 where
+  pub spelled : SpellsFileSaid bytes (record { schema = Some elements; rows = Some (pos rows); groups = Some groups })
   pub size : length bytes ≤ most
 
-module _ (elements : List ElementFields) (rows : ℕ) (groups : List GroupFields) (author : List ℕ) (few short most : ℕ) (begun a b d e f new : Writing) where
+module _ (elements : List ElementSaid) (rows : ℕ) (groups : List GroupSaid) (author : List ℕ) (few short most : ℕ) (begun a b d e f new : Writing) where
   pub file_added : 21 + few + short + name_size author ≤ most → rows < 2 ^ 63 → length author < 2 ^ 64 → begun ≡ with_struct empty → Puts (number_item 1 5 1 ∷ []) begun a
-      → PutsHeld 2 9 (SpellsListOf 12 SpellsElement) elements few a b → Puts (number_item 3 6 rows ∷ []) b d → PutsHeld 4 9 (SpellsListOf 12 SpellsGroup) groups short d e
+      → PutsHeld 2 9 (SpellsListOf 12 SpellsElementSaid) elements few a b → Puts (number_item 3 6 rows ∷ []) b d → PutsHeld 4 9 (SpellsListOf 12 SpellsGroupSaid) groups short d e
       → Puts (text_item 6 author ∷ []) e f → new ≡ with_end f → IsFile elements rows groups most new.bytes
   file_added room small known started first second third fourth fifth ended =
       let i4 = item 4 9 fourth.bytes ∷ text_item 6 author ∷ [] in
@@ -136,7 +138,7 @@ module _ (elements : List ElementFields) (rows : ℕ) (groups : List GroupFields
       let w2 : With i2 a f = items_then (item 2 9 second.bytes ∷ []) i3 a b f second.written w3 in
       let w1 : With all begun f = items_then (number_item 1 5 1 ∷ []) i2 begun a f first.0 w2 in
       let written : new.bytes ≡ struct_bytes all = ap (λ w. w.bytes) (struct_ended all empty begun f new started w1 ended) in
-      let parts : Listed (Either (List ElementFields) Groups) = (pos 1, other (other (pos 1))) ∷ (pos 2, held elements) ∷ (pos 3, other (other (pos rows))) ∷ (pos 4, other (held groups)) ∷ [] in record {
+      let parts : Listed (Either (List ElementSaid) Groups) = (pos 1, other (other (pos 1))) ∷ (pos 2, held elements) ∷ (pos 3, other (other (pos rows))) ∷ (pos 4, other (held groups)) ∷ [] in record {
         spelled = (
           parts,
           subst (λ bytes. SpellsStruct file_spells bytes parts) (sym written) (struct_spelled file_spells all parts (
@@ -194,24 +196,28 @@ module _ (elements : List ElementFields) (rows : ℕ) (groups : List GroupFields
             (at_most (struct_bytes all) (21 + few + short + name_size author) most (file_short rows second.bytes fourth.bytes author few short small known second.size fourth.size) room);
       }
 
-pub footer_spelled : (fs : Fields) (rows : ℕ) (cs : List Chunk) (bytes : List ℕ) → IsSchema fs → All IsFit cs → AreColumnsOf fs cs → SpellsFields fs rows cs bytes → SpellsFooter bytes (footer_of fs rows cs)
-footer_spelled fs rows cs bytes is fit columns file = (
-  file_said fs rows cs,
-  file.spelled,
+elements_again : (es : List ElementSaid) → each_of element_of (map element_read es) ≡ each_of read_element es
+elements_again [] = refl
+elements_again (e ∷ es) = rw (elements_again es) refl
+
+pub footer_spelled : (fs : Fields) (rows size : ℕ) (cs : List Chunk) (bytes : List ℕ) → IsSchema fs → All IsFit cs → AreColumnsOf fs cs → SpellsFields fs rows size cs bytes → SpellsFooter bytes (footer_of fs rows cs)
+footer_spelled fs rows size cs bytes is fit columns file = (
+  file_read (file_said fs rows size cs),
+  file_found bytes (file_said fs rows size cs) file.spelled,
   record {
     elements = root_of fs ∷ flat_of (written_nodes fs);
-    schema = file.read;
+    schema = elements_again (root_said fs ∷ said_of (written_nodes fs)) ∙ file.read;
     tree = own_tree fs (root_of fs) is refl;
-    groups = rw (group_again fs rows cs is fit columns) refl;
+    groups = rw (group_again fs rows size cs is fit columns) refl;
     rows = refl;
   },
 )
 
 -- ---- the file
 
-pub file_ended : (footer : plain.Footer) (before part bytes content : List ℕ) → SpellsFooter part footer → before ≡ magic ++ content → length part < 2 ^ 32
-    → bytes ≡ before ++ (part ++ (little 4 (length part) ++ magic)) → EndsFile footer before bytes
-file_ended footer before part bytes content spelled begun small e = (part, record { content = content; front = begun; fits = small; whole = e }, spelled)
+pub file_ended : (footer : plain.Footer) (said : FileSaid) (before part bytes content : List ℕ) → SpellsFooter part footer → SpellsFileSaid part said → before ≡ magic ++ content → length part < 2 ^ 32
+    → bytes ≡ before ++ (part ++ (little 4 (length part) ++ magic)) → EndsFile footer said before bytes
+file_ended footer said before part bytes content spelled says begun small e = (part, record { content = content; front = begun; fits = small; whole = e }, spelled, says)
 
 pub four_parts : (a b c d whole : List ℕ) → whole ≡ ((a ++ b) ++ c) ++ d → whole ≡ a ++ (b ++ (c ++ d))
 four_parts a b c d whole e = e ∙ append_assoc (a ++ b) c d ∙ append_assoc a b (c ++ d)

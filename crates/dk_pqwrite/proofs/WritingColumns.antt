@@ -1,5 +1,5 @@
 -- A column's pages, and the chunk that says where they stand.
-use Rattle.std.proofs.Common.{◌≡◌, ℕ, ◌+◌, ◌-◌, ◌*◌, ◌^◌, ◌<◌, ◌≤◌, Option, None, Some, pos, List, [], ◌∷◌, ◌++◌, length, map, vec_len, inl, refl, sym, ap, subst, ◌∙◌, append_assoc, append-nil, arith}
+use Rattle.std.proofs.Common.{◌≡◌, ℕ, ◌+◌, ◌-◌, ◌*◌, ◌^◌, ◌<◌, ◌≤◌, Option, None, Some, pos, List, [], ◌∷◌, ◌++◌, length, map, vec_len, inl, inr, refl, sym, ap, subst, ◌∙◌, append_assoc, append-nil, arith}
 use Rattle.std.specs.Prelude.{Vec}
 use Rattle.std.specs.List.{All}
 use Rattle.std.specs.Option.{unwrap_or}
@@ -78,17 +78,19 @@ module _ (column : LeafColumn) (entries : Column) (path : Path) (chunk : Chunk) 
     held begins behind = record {
       plain = refl;
       typed = says.typed;
-      front = old;
-      first = first;
-      pages = (page, entries) ∷ [];
-      behind = behind;
-      whole = whole behind;
-      begins = begins;
-      dictionary = dictionary;
-      entries = is_first;
-      read = (inl is_data, tt);
-      joined = sym (append-nil entries);
       count = sym says.count;
+      pages = inr (record {
+        front = old;
+        first = first;
+        pages = (page, entries) ∷ [];
+        behind = behind;
+        whole = whole behind;
+        begins = begins;
+        dictionary = dictionary;
+        entries = is_first;
+        read = (inl is_data, tt);
+        joined = sym (append-nil entries);
+      });
     }
 
     column_written : length old ≡ unwrap_or chunk.dictionary_page chunk.first_page → chunk.first_page ≡ length mid → chunk.size + length old ≡ length new → IsFit chunk

@@ -1,8 +1,8 @@
 -- What is said of the chunks and of their row group.
-use Rattle.std.specs.Prelude.{◌<◌, ◌^◌, ℕ, pos, IfSome, Some, option_map, List, map, string_bytes, Bool, true, false, ◌∷◌, []}
+use Rattle.std.specs.Prelude.{◌<◌, ◌^◌, ℕ, pos, IfSome, Some, option_map, List, map, string_bytes, Bool, true, false, is_some, ◌∷◌, []}
 use Rattle.dk_pqmodel.specs.Laid.{Path}
 use Rattle.dk_pqmodel.specs.Footer as plain
-use Rattle.dk_pqmodel.specs.Footer.{MetaFields, ChunkFields, GroupFields}
+use Rattle.dk_pqwrite.specs.Said.{MetaSaid, ChunkSaid, GroupSaid}
 use Rattle.dk_pqwrite.specs.declared.chunk.Chunk.{Chunk}
 
 abbrev pub path_of_chunk : Chunk → Path
@@ -21,23 +21,29 @@ pub record IsFit (c : Chunk) : Type 0 where
   pub first : c.first_page < 2 ^ 63
   pub dictionary : IfSome c.dictionary_page (λ n. (0 < n) × (n < 2 ^ 63))
 
-abbrev pub meta_said : Chunk → MetaFields
-meta_said c = record {
-  physical = Some (pos c.physical);
-  path = Some (path_of_chunk c);
-  codec = Some (pos 0);
-  values = Some (pos c.values);
-  first_page = Some (pos c.first_page);
-  dictionary_page = option_map pos c.dictionary_page;
-}
-
-abbrev pub chunk_said : Chunk → ChunkFields
-chunk_said c = record { metadata = Some (meta_said c) }
-
-abbrev pub group_said : List Chunk → ℕ → GroupFields
-group_said chunks rows = record { columns = Some (map chunk_said chunks); rows = Some (pos rows) }
-
 -- PLAIN and RLE, and RLE_DICTIONARY where there is a dictionary
 abbrev pub encodings_of : Bool → List ℕ
 encodings_of false = 0 ∷ 3 ∷ []
 encodings_of true = 0 ∷ 3 ∷ 8 ∷ []
+
+-- nothing is compressed, so both sizes are that of its pages
+abbrev pub meta_said : Chunk → MetaSaid
+meta_said c = record {
+  read = record {
+    physical = Some (pos c.physical);
+    path = Some (path_of_chunk c);
+    codec = Some (pos 0);
+    values = Some (pos c.values);
+    first_page = Some (pos c.first_page);
+    dictionary_page = option_map pos c.dictionary_page;
+  };
+  encodings = Some (map pos (encodings_of (is_some c.dictionary_page)));
+  uncompressed = Some (pos c.size);
+  compressed = Some (pos c.size);
+}
+
+abbrev pub chunk_said : Chunk → ChunkSaid
+chunk_said c = record { metadata = Some (meta_said c) }
+
+abbrev pub group_said : List Chunk → ℕ → ℕ → GroupSaid
+group_said chunks bytes rows = record { columns = Some (map chunk_said chunks); bytes = Some (pos bytes); rows = Some (pos rows) }

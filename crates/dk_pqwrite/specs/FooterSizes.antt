@@ -1,7 +1,7 @@
 -- How many bytes the parts of a footer have at most.
 use Rattle.std.specs.Prelude.{ℕ, ◌+◌, ◌/◌, min, List, length, sum_by, Option, Some, None}
 use Rattle.dk_pqmodel.specs.Laid.{Path}
-use Rattle.dk_pqmodel.specs.Footer.{ElementFields}
+use Rattle.dk_pqwrite.specs.Said.{ElementSaid}
 
 -- a name behind its length, which has a byte for names below 64 bytes, and never more than ten
 abbrev pub name_size : List ℕ → ℕ
@@ -12,8 +12,8 @@ named_size None = 0
 named_size (Some name) = name_size name
 
 -- an element of the schema
-abbrev pub element_size : ElementFields → ℕ
-element_size fields = 26 + named_size fields.name
+abbrev pub element_size : ElementSaid → ℕ
+element_size fields = 26 + named_size fields.read.name
 
 -- what is said of a column with this path
 abbrev pub chunk_size : Path → ℕ

@@ -4,11 +4,12 @@ use Rattle.dk_grammar.specs.Lists.{SpellsListOf}
 use Rattle.dk_thrift.specs.Writing.{Writing}
 use Rattle.dk_pqmodel.specs.Shape.{Fields}
 use Rattle.dk_pqmodel.specs.FileMeans.{columns_of}
-use Rattle.dk_pqmodel.specs.Footer.{Footer, Element, ElementFields, FileFields, count_of, flat_of, each_of, element_of}
-use Rattle.dk_pqmodel.specs.FooterBytes.{SpellsElement, SpellsMetaData, SpellsFooter, IsFramed}
+use Rattle.dk_pqmodel.specs.Footer.{Footer, Element, count_of, flat_of, each_of}
+use Rattle.dk_pqmodel.specs.FooterBytes.{SpellsFooter, IsFramed}
+use Rattle.dk_pqwrite.specs.Said.{ElementSaid, SpellsElementSaid, FileSaid, SpellsFileSaid}
 use Rattle.dk_pqwrite.specs.declared.chunk.Chunk.{Chunk}
 use Rattle.dk_pqwrite.specs.Chunks.{chunk_view, group_said, path_of_chunk}
-use Rattle.dk_pqwrite.specs.Elements.{fields_said, said_of}
+use Rattle.dk_pqwrite.specs.Elements.{fields_said, read_element, said_of}
 use Rattle.dk_pqwrite.specs.FooterSizes.{element_size, chunk_size}
 use Rattle.dk_pqwrite.specs.Items.{PutsHeld}
 use Rattle.dk_pqwrite.specs.OverItself.{own_plans, path_of}
@@ -18,8 +19,8 @@ use Rattle.dk_pqwrite.specs.Written.{written_nodes}
 abbrev pub root_of : Fields → Element
 root_of fs = record { name = codes "root"; repetition = None; physical = None; children = count_of (written_nodes fs) }
 
-abbrev pub root_said : Fields → ElementFields
-root_said fs = fields_said (codes "root") None None (Some (count_of (written_nodes fs)))
+abbrev pub root_said : Fields → ElementSaid
+root_said fs = fields_said (codes "root") None None (Some (count_of (written_nodes fs))) None
 
 -- how many bytes the elements of the schema have at most, the root among them
 abbrev pub elements_size : Fields → ℕ
@@ -31,18 +32,18 @@ footer_size fs chunks = elements_size fs + sum_by chunk_size (map path_of_chunk 
 
 -- The field of the schema's elements is added: the root and all that is below it.
 pub record PutsSchema (fs : Fields) (old new : Writing) : Type 0 where
-  pub held : PutsHeld 2 9 (SpellsListOf 12 SpellsElement) (root_said fs ∷ said_of (written_nodes fs)) (6 + elements_size fs) old new
-  pub read : each_of element_of (root_said fs ∷ said_of (written_nodes fs)) ≡ Some (root_of fs ∷ flat_of (written_nodes fs))
+  pub held : PutsHeld 2 9 (SpellsListOf 12 SpellsElementSaid) (root_said fs ∷ said_of (written_nodes fs)) (6 + elements_size fs) old new
+  pub read : each_of read_element (root_said fs ∷ said_of (written_nodes fs)) ≡ Some (root_of fs ∷ flat_of (written_nodes fs))
 
 -- what the fields of the whole say
-abbrev pub file_said : Fields → ℕ → List Chunk → FileFields
-file_said fs rows chunks =
-    record { schema = Some (root_said fs ∷ said_of (written_nodes fs)); rows = Some (pos rows); groups = Some (group_said chunks rows ∷ []) }
+abbrev pub file_said : Fields → ℕ → ℕ → List Chunk → FileSaid
+file_said fs rows bytes chunks =
+    record { schema = Some (root_said fs ∷ said_of (written_nodes fs)); rows = Some (pos rows); groups = Some (group_said chunks bytes rows ∷ []) }
 
 -- The bytes are a FileMetaData that says these, and its elements are read.
-pub record SpellsFields (fs : Fields) (rows : ℕ) (chunks : List Chunk) (bytes : List ℕ) : Type 0 where
-  pub spelled : SpellsMetaData bytes (file_said fs rows chunks)
-  pub read : each_of element_of (root_said fs ∷ said_of (written_nodes fs)) ≡ Some (root_of fs ∷ flat_of (written_nodes fs))
+pub record SpellsFields (fs : Fields) (rows size : ℕ) (chunks : List Chunk) (bytes : List ℕ) : Type 0 where
+  pub spelled : SpellsFileSaid bytes (file_said fs rows size chunks)
+  pub read : each_of read_element (root_said fs ∷ said_of (written_nodes fs)) ≡ Some (root_of fs ∷ flat_of (written_nodes fs))
 
 -- the chunks are those of the schema's columns, in order
 abbrev pub AreColumnsOf : Fields → List Chunk → Type 0
@@ -52,6 +53,6 @@ AreColumnsOf fs chunks = map path_of_chunk chunks ≡ map path_of (columns_of (o
 abbrev pub footer_of : Fields → ℕ → List Chunk → Footer
 footer_of fs rows chunks = record { rows = rows; fields = written_nodes fs; groups = record { rows = rows; columns = map chunk_view chunks } ∷ [] }
 
--- The bytes end with this footer, behind what stood there before.
-abbrev pub EndsFile : Footer → List ℕ → List ℕ → Type 0
-EndsFile footer before bytes = (part : List ℕ) × IsFramed bytes before part × SpellsFooter part footer
+-- The bytes end with a footer that is read so and says this, behind what stood there before.
+abbrev pub EndsFile : Footer → FileSaid → List ℕ → List ℕ → Type 0
+EndsFile footer said before bytes = (part : List ℕ) × IsFramed bytes before part × SpellsFooter part footer × SpellsFileSaid part said

@@ -10,6 +10,7 @@ pub mod HeaderBytes
 pub mod Items
 pub mod OverItself
 pub mod PlainValues
+pub mod Said
 pub mod SchemaLeaves
 pub mod Shredded
 pub mod Writable
@@ -17,3 +18,4 @@ pub mod Written
 pub mod WrittenChunk
 pub mod WrittenColumn
 pub mod WrittenColumns
+pub mod WrittenFile

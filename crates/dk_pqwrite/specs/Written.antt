@@ -13,6 +13,16 @@ physical_at (shape.group fs) = None
 physical_at (shape.list f) = None
 physical_at (dictionary f) = None
 
+-- what other readers take a field for: a text is UTF8, 0, a list LIST, 3, and a map MAP, 1
+abbrev pub converted_at : Shape → Option ℕ
+converted_at (leaf shape.flag) = None
+converted_at (leaf shape.int32) = None
+converted_at (leaf shape.int64) = None
+converted_at (leaf shape.chars) = Some 0
+converted_at (shape.group fs) = None
+converted_at (shape.list f) = Some 3
+converted_at (dictionary f) = Some 1
+
 -- A field that may be null is optional, any other required. A list is a group of one repeated group `list` of one `element`, and a map
 -- one of a repeated group `key_value` of a `key` and a `value`.
 abbrev mutual

@@ -1,5 +1,5 @@
 -- The pages of all columns, one column behind another.
-use Rattle.std.specs.Prelude.{◌≡◌, ◌≤◌, ◌+◌, ◌*◌, ℕ, List, [], ◌∷◌, ◌++◌, length, map, sum_by, All}
+use Rattle.std.specs.Prelude.{◌≡◌, ◌≤◌, ◌+◌, ◌*◌, ℕ, List, [], ◌∷◌, ◌++◌, length, map, sum_by, All, flat_map}
 use Rattle.dk_pqmodel.specs.Datum.{Column}
 use Rattle.dk_pqmodel.specs.FileMeans.{HasTriples}
 use Rattle.dk_pqmodel.specs.FilePages.{ColumnAt}
@@ -14,6 +14,12 @@ AreHeld before [] [] [] = Unit {0}
 AreHeld before (c ∷ cs) (t ∷ ts) (k ∷ ks) = HasTriples before c (chunk_view k).1 t × AreHeld before cs ts ks
 AreHeld before cs ts ks = ⊥
 
+-- each chunk says how many bytes its pages have
+abbrev pub AreSized : List Chunk → List (List ℕ) → Type 0
+AreSized [] [] = Unit {0}
+AreSized (k ∷ ks) (p ∷ ps) = (k.size ≡ length p) × AreSized ks ps
+AreSized ks ps = ⊥
+
 -- Bytes are added that are the columns' pages, and these are their chunks, whatever is written behind.
 pub record WritesColumns (columns : List ColumnAt) (triples : List Column) (chunks : List Chunk) (old new : List ℕ) : Type 0 where
   pub part : List ℕ
@@ -21,4 +27,7 @@ pub record WritesColumns (columns : List ColumnAt) (triples : List Column) (chun
   pub held : (behind : List ℕ) → AreHeld (new ++ behind) columns triples chunks
   pub paths : map path_of_chunk chunks ≡ map path_of columns
   pub fit : All IsFit chunks
+  pub parts : List (List ℕ)
+  pub joined : part ≡ flat_map (λ p. p) parts
+  pub sized : AreSized chunks parts
   pub size : length part ≤ 220 * length columns + sum_by column_bytes triples

@@ -3,10 +3,11 @@
 ghost use Rattle.std.specs.Prelude.{◌≡◌, ◌+◌, ◌*◌, IfOk, OnOk, length, map, pos, string_bytes, sum_by};
 ghost use Rattle.dk_grammar.specs.Grammar.{SpellsWhole};
 ghost use Rattle.dk_grammar.specs.Lists.{SpellsEach, SpellsListOf};
-ghost use Rattle.dk_pqmodel.specs.FooterBytes.{SpellsChunk, SpellsMeta, SpellsName, SpellsPath};
+ghost use Rattle.dk_pqmodel.specs.FooterBytes.{SpellsName, SpellsPath};
 ghost use Rattle.dk_pqwrite.specs.Chunks.{IsFit, chunk_said, encodings_of, meta_said, path_of_chunk};
 ghost use Rattle.dk_pqwrite.specs.FooterSizes.{chunk_size, name_size};
 ghost use Rattle.dk_pqwrite.specs.Items.{PutsHeld, Writes};
+ghost use Rattle.dk_pqwrite.specs.Said.{SpellsChunkSaid, SpellsMetaSaid};
 ghost use Rattle.dk_thrift.specs.Writing.{IsOpen};
 
 use crate::fields::{BINARY, I32, I64, LIST, STRUCT, put_number, put_place};
@@ -43,7 +44,7 @@ pub(crate) struct Chunk {
 pub(crate) fn write_chunk(writer: &mut Writer, chunk: &Chunk) -> Result<(), AllocError>
     requires in_struct { IsOpen writer.old }
     requires fit { IsFit chunk.now }
-    ensures { OnOk result (Writes SpellsChunk (chunk_said chunk.now) (chunk_size (path_of_chunk chunk.now)) writer.old writer.new) }
+    ensures { OnOk result (Writes SpellsChunkSaid (chunk_said chunk.now) (chunk_size (path_of_chunk chunk.now)) writer.old writer.new) }
 {
     writer.enter()?;
     put_number(writer, 2, I64, 0)?;
@@ -56,7 +57,7 @@ pub(crate) fn write_chunk(writer: &mut Writer, chunk: &Chunk) -> Result<(), Allo
 fn put_metadata(writer: &mut Writer, chunk: &Chunk) -> Result<(), AllocError>
     requires in_struct { IsOpen writer.old }
     requires fit { IsFit chunk.now }
-    ensures { OnOk result (PutsHeld 3 12 SpellsMeta (meta_said chunk.now) (88 + sum_by name_size (path_of_chunk chunk.now)) writer.old writer.new) }
+    ensures { OnOk result (PutsHeld 3 12 SpellsMetaSaid (meta_said chunk.now) (88 + sum_by name_size (path_of_chunk chunk.now)) writer.old writer.new) }
 {
     writer.field(3, STRUCT)?;
     write_metadata(writer, chunk)?;
@@ -67,7 +68,7 @@ fn put_metadata(writer: &mut Writer, chunk: &Chunk) -> Result<(), AllocError>
 fn write_metadata(writer: &mut Writer, chunk: &Chunk) -> Result<(), AllocError>
     requires in_struct { IsOpen writer.old }
     requires fit { IsFit chunk.now }
-    ensures { OnOk result (Writes SpellsMeta (meta_said chunk.now) (88 + sum_by name_size (path_of_chunk chunk.now)) writer.old writer.new) }
+    ensures { OnOk result (Writes SpellsMetaSaid (meta_said chunk.now) (88 + sum_by name_size (path_of_chunk chunk.now)) writer.old writer.new) }
 {
     writer.enter()?;
     put_number(writer, 1, I32, u64::from(chunk.physical))?;

@@ -25,7 +25,7 @@ pub(crate) struct Element<'a> {
 /// An element, as a struct inside another one.
 pub(crate) fn write_element(writer: &mut Writer, element: &Element<'_>) -> Result<(), AllocError>
     requires { IsOpen writer.old }
-    ensures { OnOk result (WritesElement (fields_said element.now.name.now element.now.repetition element.now.physical element.now.children) writer.old writer.new) }
+    ensures { OnOk result (WritesElement (fields_said element.now.name.now element.now.repetition element.now.physical element.now.children element.now.converted) writer.old writer.new) }
 {
     writer.enter()?;
     put_optional(writer, 1, element.physical)?;

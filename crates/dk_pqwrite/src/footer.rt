@@ -8,7 +8,8 @@ ghost use Rattle.dk_pqmodel.specs.NodeView.{fields_of};
 ghost use Rattle.dk_pqmodel.specs.SchemaView.{fields_in};
 ghost use Rattle.dk_pqwrite.specs.Chunks.{IsFit};
 ghost use Rattle.dk_pqwrite.specs.Elements.{fields_said, said_of};
-ghost use Rattle.dk_pqwrite.specs.Footers.{AreColumnsOf, EndsFile, PutsSchema, SpellsFields, footer_of, footer_size, root_said};
+ghost use Rattle.dk_pqwrite.specs.Footers.{AreColumnsOf, EndsFile, PutsSchema, SpellsFields, file_said, footer_of, footer_size, root_said};
+ghost use Rattle.dk_pqwrite.specs.Said.{SpellsFileSaid};
 ghost use Rattle.dk_pqwrite.specs.Written.{written_nodes};
 ghost use Rattle.dk_thrift.specs.Writing.{IsOpen};
 
@@ -48,7 +49,7 @@ pub(crate) fn end_file(
     requires size { size < 2 ^ 63 }
     requires fit { All IsFit chunks.now }
     requires columns { AreColumnsOf (fields_in schema.now) chunks.now }
-    ensures ended { OnOk result (EndsFile (footer_of (fields_in schema.now) rows chunks.now) bytes.old.items bytes.new.items) }
+    ensures ended { OnOk result (EndsFile (footer_of (fields_in schema.now) rows chunks.now) (file_said (fields_in schema.now) rows size chunks.now) bytes.old.items bytes.new.items) }
     ensures size { OnOk result (length bytes.new.items ≤ length bytes.old.items + 78 + footer_size (fields_in schema.now) chunks.now) }
 {
     let footer = write_footer(alloc, schema, rows, size, chunks)?;
@@ -94,6 +95,7 @@ pub(crate) fn write_footer(
     requires fit { All IsFit chunks.now }
     requires columns { AreColumnsOf (fields_in schema.now) chunks.now }
     ensures spelled { IfOk result (λ v. SpellsFooter v.items (footer_of (fields_in schema.now) rows chunks.now)) }
+    ensures says { IfOk result (λ v. SpellsFileSaid v.items (file_said (fields_in schema.now) rows size chunks.now)) }
     ensures size { IfOk result (λ v. length v.items ≤ 70 + footer_size (fields_in schema.now) chunks.now) }
 {
     let footer = write_fields(alloc, &schema.nodes, rows, size, chunks)?;
@@ -111,7 +113,7 @@ pub(crate) fn write_fields(
     requires rows { rows < 2 ^ 63 }
     requires size { size < 2 ^ 63 }
     requires fit { All IsFit chunks.now }
-    ensures spelled { IfOk result (λ v. SpellsFields (fields_of nodes.now) rows chunks.now v.items) }
+    ensures spelled { IfOk result (λ v. SpellsFields (fields_of nodes.now) rows size chunks.now v.items) }
     ensures size { IfOk result (λ v. length v.items ≤ 70 + footer_size (fields_of nodes.now) chunks.now) }
 {
     let mut writer = Writer::new(alloc);
@@ -153,7 +155,7 @@ fn count_elements(nodes: &[Node]) -> Result<u32, AllocError>
 
 /// The element of the root, where the format can count the fields at the top.
 fn root(nodes: &[Node]) -> Result<Element<'static>, AllocError>
-    ensures said { IfOk result (λ e. fields_said e.name.now e.repetition e.physical e.children ≡ root_said (fields_of nodes.now)) }
+    ensures said { IfOk result (λ e. fields_said e.name.now e.repetition e.physical e.children e.converted ≡ root_said (fields_of nodes.now)) }
     ensures few { IfOk result (λ e. count_of (written_nodes (fields_of nodes.now)) < 2 ^ 31) }
 {
     let count = nodes.len();

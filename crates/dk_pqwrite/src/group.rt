@@ -2,7 +2,7 @@
 
 ghost use Rattle.std.specs.Prelude.{◌<◌, ◌+◌, ◌^◌, ◌∷◌, [], All, OnOk, map, sum_by};
 ghost use Rattle.dk_grammar.specs.Lists.{SpellsEach, SpellsListOf};
-ghost use Rattle.dk_pqmodel.specs.FooterBytes.{SpellsChunk, SpellsGroup};
+ghost use Rattle.dk_pqwrite.specs.Said.{SpellsChunkSaid, SpellsGroupSaid};
 ghost use Rattle.dk_pqwrite.specs.Chunks.{IsFit, chunk_said, group_said, path_of_chunk};
 ghost use Rattle.dk_pqwrite.specs.FooterSizes.{chunk_size};
 ghost use Rattle.dk_pqwrite.specs.Items.{PutsHeld, Writes};
@@ -24,7 +24,7 @@ pub(crate) fn put_groups(
     requires rows { rows < 2 ^ 63 }
     requires size { size < 2 ^ 63 }
     requires fit { All IsFit chunks.now }
-    ensures { OnOk result (PutsHeld 4 9 (SpellsListOf 12 SpellsGroup) (group_said chunks.now rows ∷ []) (36 + sum_by chunk_size (map path_of_chunk chunks.now)) writer.old writer.new) }
+    ensures { OnOk result (PutsHeld 4 9 (SpellsListOf 12 SpellsGroupSaid) (group_said chunks.now size rows ∷ []) (36 + sum_by chunk_size (map path_of_chunk chunks.now)) writer.old writer.new) }
 {
     writer.field(4, LIST)?;
     writer.list(1, STRUCT)?;
@@ -43,7 +43,7 @@ fn write_group(
     requires rows { rows < 2 ^ 63 }
     requires size { size < 2 ^ 63 }
     requires fit { All IsFit chunks.now }
-    ensures { OnOk result (Writes SpellsGroup (group_said chunks.now rows) (30 + sum_by chunk_size (map path_of_chunk chunks.now)) writer.old writer.new) }
+    ensures { OnOk result (Writes SpellsGroupSaid (group_said chunks.now size rows) (30 + sum_by chunk_size (map path_of_chunk chunks.now)) writer.old writer.new) }
 {
     writer.enter()?;
     put_chunks(writer, chunks)?;
@@ -57,7 +57,7 @@ fn write_group(
 fn put_chunks(writer: &mut Writer, chunks: &[Chunk]) -> Result<(), AllocError>
     requires in_struct { IsOpen writer.old }
     requires fit { All IsFit chunks.now }
-    ensures { OnOk result (PutsHeld 1 9 (SpellsListOf 12 SpellsChunk) (map chunk_said chunks.now) (6 + sum_by chunk_size (map path_of_chunk chunks.now)) writer.old writer.new) }
+    ensures { OnOk result (PutsHeld 1 9 (SpellsListOf 12 SpellsChunkSaid) (map chunk_said chunks.now) (6 + sum_by chunk_size (map path_of_chunk chunks.now)) writer.old writer.new) }
 {
     let count = count(chunks.len())?;
     writer.field(1, LIST)?;
@@ -70,7 +70,7 @@ fn put_chunks(writer: &mut Writer, chunks: &[Chunk]) -> Result<(), AllocError>
 fn write_chunks(writer: &mut Writer, chunks: &[Chunk]) -> Result<(), AllocError>
     requires in_struct { IsOpen writer.old }
     requires fit { All IsFit chunks.now }
-    ensures { OnOk result (Writes (SpellsEach SpellsChunk) (map chunk_said chunks.now) (sum_by chunk_size (map path_of_chunk chunks.now)) writer.old writer.new) }
+    ensures { OnOk result (Writes (SpellsEach SpellsChunkSaid) (map chunk_said chunks.now) (sum_by chunk_size (map path_of_chunk chunks.now)) writer.old writer.new) }
 {
     for chunk in chunks {
         write_chunk(writer, chunk)?;

@@ -6,13 +6,9 @@ ghost use Rattle.dk_grammar.specs.PageHeaders.{SpellsHeader};
 ghost use Rattle.dk_thrift.specs.Writing.{IsOpen, with_end};
 ghost use Rattle.dk_pqwrite.specs.HeaderBytes.{begun_bytes, data_numbers, dictionary_numbers, page_parts, with_number};
 
+use crate::fields::{I32, STRUCT};
 use dk_thrift::Writer;
 use std::alloc::{AllocError, Global};
-
-/// The kinds of fields (Thrift compact protocol): whole numbers of 32 bits, and structs.
-const WHOLE: u8 = 5;
-
-const STRUCT: u8 = 12;
 
 /// Types of pages, each with the id of its inner header.
 const DATA_PAGE: u32 = 0;
@@ -99,6 +95,6 @@ fn add_number(writer: &mut Writer, id: i16, value: u32) -> Result<(), AllocError
     requires { IsOpen writer.old }
     ensures { OnOk result (writer.new ≡ with_number id (pos value) writer.old) }
 {
-    writer.field(id, WHOLE)?;
+    writer.field(id, I32)?;
     writer.whole(i64::from(value))
 }

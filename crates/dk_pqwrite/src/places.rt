@@ -2,7 +2,7 @@
 
 ghost use Rattle.std.specs.Prelude.{◌+◌, ◌*◌, ◌<◌, ◌≤◌, ◌^◌, All, List, ℕ, OnOk, length, map};
 ghost use Rattle.dk_pqmodel.specs.Datum.{chars};
-ghost use Rattle.dk_pqmodel.specs.FilePages.{ByIndices};
+ghost use Rattle.dk_pqmodel.specs.FilePages.{BehindWidth};
 ghost use Rattle.dk_pqwrite.specs.Adding.{Adds};
 ghost use Rattle.dk_pqwrite.specs.FirstUses.{AreTheirs};
 
@@ -10,7 +10,8 @@ use crate::dictionary::Dictionary;
 use dk_hybrid::encode;
 use std::alloc::{AllocError, Global};
 
-/// Adds the places of texts: a byte with their width, and runs (Apache Parquet, "Dictionary Encoding"). No place takes no bytes.
+/// Adds the places of texts: a byte with their width, and runs (Apache Parquet, "Dictionary Encoding"). The byte stands there where
+/// there is no place too.
 pub(crate) fn add_places(
     alloc: Global,
     out: &mut Vec<u8>,
@@ -19,11 +20,8 @@ pub(crate) fn add_places(
     requires few { length dictionary.now.texts.keys ≤ 2 ^ 26 }
     requires fit { All (λ place. place < length dictionary.now.texts.keys) dictionary.now.places.items }
     ensures { OnOk result ((texts : List (List ℕ)) → AreTheirs (map (λ k. k.now) dictionary.now.texts.keys) dictionary.now.places.items texts
-        → Adds (ByIndices (map chars (map (λ k. k.now) dictionary.now.texts.keys)) (map chars texts)) (41 + 5 * length dictionary.now.places.items) out.old.items out.new.items) }
+        → Adds (BehindWidth (map chars (map (λ k. k.now) dictionary.now.texts.keys)) (map chars texts)) (41 + 5 * length dictionary.now.places.items) out.old.items out.new.items) }
 {
-    if dictionary.places.is_empty() {
-        return Ok(());
-    }
     let width = width(dictionary.texts.len());
     let runs = encode(alloc, &dictionary.places, width)?;
     out.push(width)?;

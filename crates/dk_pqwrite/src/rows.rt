@@ -10,6 +10,7 @@ ghost use Rattle.dk_pqmodel.specs.Weight.{most_bytes, most_weight, weight};
 ghost use Rattle.dk_pqwrite.specs.SchemaLeaves.{leaf_view};
 ghost use Rattle.dk_pqwrite.specs.Shredded.{AreWritable};
 ghost use Rattle.dk_pqwrite.specs.WrittenColumns.{WritesColumns};
+ghost use Rattle.dk_pqwrite.specs.WrittenFile.{SaysItsBytes};
 
 use crate::chunk::Chunk;
 use crate::footer::{MAGIC, end_file};
@@ -33,6 +34,7 @@ pub fn write_rows(
     requires fit { Fit (fields_in schema.now) (rows_of rows.now) }
     requires light { weight (rows_of rows.now) ≤ most_weight }
     ensures means { IfOk result (λ v. FileMeans (fields_in schema.now) v.items (rows_of rows.now)) }
+    ensures says { IfOk result (λ v. SaysItsBytes (fields_in schema.now) (length rows.now) v.items) }
     ensures small { IfOk result (λ v. length v.items ≤ most_bytes (fields_in schema.now) (rows_of rows.now)) }
 {
     let columns = shred_borrowed(alloc, schema, rows)?;

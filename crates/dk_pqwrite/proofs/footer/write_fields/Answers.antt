@@ -1,6 +1,6 @@
 use Rattle.std.proofs.Common.{ℕ, ◌∷◌, [], ◌+◌, ◌≤◌, arith, codes, length, lit<, map, subst, sum_by, sym}
 use Rattle.dk_pqmodel.specs.NodeView.{fields_of}
-use Rattle.dk_pqmodel.specs.FooterBytes.{SpellsMetaData}
+use Rattle.dk_pqwrite.specs.Said.{SpellsFileSaid}
 use Rattle.dk_pqwrite.specs.Chunks.{group_said, path_of_chunk}
 use Rattle.dk_pqwrite.specs.Elements.{said_of}
 use Rattle.dk_pqwrite.specs.FooterSizes.{chunk_size}
@@ -17,11 +17,11 @@ returns c =
     let fs = fields_of c.args.nodes.now in
     let chunks = c.args.chunks.now in
     let put = c.in_ok-put_schema.ensures in
-    let file = file_added (root_said fs ∷ said_of (written_nodes fs)) c.args.rows (group_said chunks c.args.rows ∷ []) (codes "deltak") (6 + elements_size fs)
+    let file = file_added (root_said fs ∷ said_of (written_nodes fs)) c.args.rows (group_said chunks c.args.size c.args.rows ∷ []) (codes "deltak") (6 + elements_size fs)
     (36 + sum_by chunk_size (map path_of_chunk chunks)) (70 + footer_size fs chunks) c.new-writer.result c.put_number.new.writer c.put_schema.new.writer
     c.put_number-2.new.writer c.put_groups.new.writer c.put_text.new.writer c.end.new.self (room (elements_size fs) (sum_by chunk_size (map path_of_chunk chunks))) c.requires.rows (lit< tt) c.new-writer.ensures c.in_ok-put_number.ensures put.held c.in_ok-put_number-2.ensures
     c.in_ok-put_groups.ensures c.in_ok-put_text.ensures c.in_ok-end.ensures.written in
     record {
-      spelled = record { spelled = subst (λ bytes. SpellsMetaData bytes (file_said fs c.args.rows chunks)) (sym c.finish.ensures) file.spelled; read = put.read };
+      spelled = record { spelled = subst (λ bytes. SpellsFileSaid bytes (file_said fs c.args.rows c.args.size chunks)) (sym c.finish.ensures) file.spelled; read = put.read };
       size = subst (λ bytes. length bytes ≤ 70 + footer_size fs chunks) (sym c.finish.ensures) file.size;
     }

@@ -12,7 +12,8 @@ returns c =
     let bytes = c.in_ok-footer.footer.items in
     let nodes : c.deref.result.now ≡ schema.nodes.items = search rules in
     record {
-      spelled = footer_spelled (fields_in schema) c.args.rows chunks bytes schema.is_schema c.requires.fit c.requires.columns
-          (subst (λ ns. SpellsFields (fields_of ns) c.args.rows chunks bytes) nodes c.in_ok-footer.ensures.spelled);
+      spelled = footer_spelled (fields_in schema) c.args.rows c.args.size chunks bytes schema.is_schema c.requires.fit c.requires.columns
+          (subst (λ ns. SpellsFields (fields_of ns) c.args.rows c.args.size chunks bytes) nodes c.in_ok-footer.ensures.spelled);
+      says = (subst (λ ns. SpellsFields (fields_of ns) c.args.rows c.args.size chunks bytes) nodes c.in_ok-footer.ensures.spelled).spelled;
       size = subst (λ ns. length bytes ≤ 70 + footer_size (fields_of ns) chunks) nodes c.in_ok-footer.ensures.size;
     }

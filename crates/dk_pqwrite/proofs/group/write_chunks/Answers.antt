@@ -1,6 +1,6 @@
 use Rattle.std.proofs.Common.{rules, ◌≡◌, ◌<◌, ◌≤◌, length, get_or, map, subst}
 use Rattle.dk_grammar.specs.Lists.{SpellsEach}
-use Rattle.dk_pqmodel.specs.FooterBytes.{SpellsChunk}
+use Rattle.dk_pqwrite.specs.Said.{SpellsChunkSaid}
 use Rattle.dk_pqwrite.specs.Chunks.{chunk_said, path_of_chunk}
 use Rattle.dk_pqwrite.specs.FooterSizes.{chunk_size}
 use Rattle.dk_pqwrite.specs.Items.{Writes}
@@ -14,11 +14,11 @@ loop-chunk-preserved c =
     let place = c.loop-chunk.chunk-index in
     let room : place < length chunks = search rules in
     let is : chunk ≡ get_or chunks place chunk = search rules in
-    next_value SpellsChunk chunk_said (λ chunk. chunk_size (path_of_chunk chunk)) chunks place chunk c.args.writer.now c.loop-chunk.writer c.write_chunk.new.writer room is c.loop-chunk.invariant c.in_ok-write_chunk.ensures
+    next_value SpellsChunkSaid chunk_said (λ chunk. chunk_size (path_of_chunk chunk)) chunks place chunk c.args.writer.now c.loop-chunk.writer c.write_chunk.new.writer room is c.loop-chunk.invariant c.in_ok-write_chunk.ensures
 
 pub returns : goal.returns
 returns c =
     let chunks = c.args.chunks.now in
     let past : length chunks ≤ c.loop-chunk.chunk-index = search rules in
-    subst (λ most. Writes (SpellsEach SpellsChunk) (map chunk_said chunks) most c.args.writer.now c.loop-chunk.writer) (sum_of chunk_size path_of_chunk chunks)
-    (all_values SpellsChunk chunk_said (λ chunk. chunk_size (path_of_chunk chunk)) chunks c.loop-chunk.chunk-index c.args.writer.now c.loop-chunk.writer past c.loop-chunk.invariant)
+    subst (λ most. Writes (SpellsEach SpellsChunkSaid) (map chunk_said chunks) most c.args.writer.now c.loop-chunk.writer) (sum_of chunk_size path_of_chunk chunks)
+    (all_values SpellsChunkSaid chunk_said (λ chunk. chunk_size (path_of_chunk chunk)) chunks c.loop-chunk.chunk-index c.args.writer.now c.loop-chunk.writer past c.loop-chunk.invariant)
