@@ -1,14 +1,13 @@
 -- What the header of each kind of page says, and the page that a header of its kind says.
-use Rattle.std.proofs.Common.{◌≡◌, ℕ, ◌+◌, ◌^◌, ◌<◌, ◌⊎◌, inl, inr, nat_lt, Bool, true, false, cond, Option, Some, None, option_and_then, ℤ, pos, negsuc, List, ◌++◌, length, refl, sym, ap, subst, ◌∙◌, arith}
+use Rattle.std.proofs.Common.{◌≡◌, ℕ, ◌^◌, ◌<◌, ◌⊎◌, inl, inr, nat_lt, Bool, true, false, cond, Option, Some, None, option_and_then, ℤ, pos, negsuc, List, ◌++◌, length, refl, sym, ap, subst, ◌∙◌}
 use Rattle.std.specs.Ordering.{int_eq}
 use Rattle.std.proofs.lemmas.Bool.{ltb-true, lt-ltb}
 use Rattle.std.proofs.lemmas.Bool.Decides.{Decides-int_eq}
-use Rattle.dk_grammar.specs.Structs.{Listed, last_under, when}
+use Rattle.dk_grammar.specs.Structs.{Listed, last_under}
 use Rattle.dk_grammar.specs.PageHeaders.{Part, numbers_in, inner_under, SpellsHeader}
 use Rattle.dk_pages.specs.Headers.{numbers_of, fields_of, natural, int32, data_header, data_header_v2, dictionary_header, typed_header, page_header_of, rle}
 use Rattle.dk_pages.specs.Pages.{Page, page_with}
 use Rattle.dk_pages.specs.Spelled.{IsPageAt}
-use Rattle.dk_pages.specs.declared.fields.Fields.{Fields}
 use Rattle.dk_pages.specs.declared.header.Header.{Header}
 use Rattle.dk_pages.specs.declared.header.PageKind.{PageKind}
 use Rattle.dk_pages.specs.declared.header.PageKind.TheVariants.{DataV1, DataV2, Dictionary}

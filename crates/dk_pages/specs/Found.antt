@@ -1,6 +1,6 @@
 -- What calls on a reader find.
-use Rattle.std.specs.Prelude.{◌≡◌, ℕ, Option, Result, Ok, Err, IsErr, ◌++◌}
-use Rattle.dk_grammar.specs.Thrift.{Front, ◌>>=◌}
+use Rattle.std.specs.Prelude.{◌≡◌, Option, Result, Ok, Err, IsErr}
+use Rattle.dk_grammar.specs.Thrift.{Front}
 use Rattle.dk_thrift.specs.Reading.{Reading}
 use Rattle.dk_thrift.specs.declared.fault.ThriftFault.{ThriftFault}
 use Rattle.dk_grammar.specs.Structs.{Listed}

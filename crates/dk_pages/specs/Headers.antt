@@ -1,7 +1,7 @@
 -- Page headers (Apache Parquet, parquet.thrift, PageHeader), from the fields of their structs by id.
-use Rattle.std.specs.Prelude.{ℕ, ◌==◌, ◌^◌, ◌&&◌, ◌||◌, nat_lt, int_le, if◌then◌else◌, ℤ, pos, negsuc, Option, Some, None, option_map, option_and_then, unwrap_or, Ok, Err, List, [], ◌∷◌, ◌++◌}
+use Rattle.std.specs.Prelude.{ℕ, ◌^◌, ◌&&◌, nat_lt, int_le, if◌then◌else◌, ℤ, pos, negsuc, Option, Some, None, option_map, unwrap_or, Ok, Err, List}
 use Rattle.std.specs.Ordering.{int_eq}
-use Rattle.dk_grammar.specs.Thrift.{Front, ◌>>=◌}
+use Rattle.dk_grammar.specs.Thrift.{Front}
 use Rattle.dk_grammar.specs.PageHeaders.{Part, number, inner, part_meaning, numbers_in, inner_under}
 use Rattle.dk_grammar.specs.Structs.{Listed, struct_at, last_under, when, first_of_two}
 use Rattle.dk_pqmodel.specs.Footer.{◌>=◌}

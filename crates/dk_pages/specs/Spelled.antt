@@ -1,5 +1,5 @@
 -- Where a page stands, apart from reading it.
-use Rattle.std.specs.Prelude.{◌≡◌, ℕ, zero, suc, ◌==◌, ◌&&◌, ℤ, pos, Some, List, [], ◌++◌, length}
+use Rattle.std.specs.Prelude.{◌≡◌, ℕ, Some, List, ◌++◌, length}
 use Rattle.dk_grammar.specs.Structs.{Listed}
 use Rattle.dk_grammar.specs.PageHeaders.{Part, SpellsHeader}
 use Rattle.dk_pages.specs.Headers.{fields_of, page_header_of}
