@@ -26,14 +26,9 @@ impl Folder {
 }
 
 impl Store for Folder {
-    ghost use Rattle.std.specs.Prelude.{None};
-    ghost use Rattle.dk_dir.specs.Counts.{dir_faults, dir_clashes};
+    ghost use Rattle.dk_dir.specs.Counts.{dir_seen};
 
-    ghost told = { λ _. None };
-
-    ghost store_faults = { λ s. dir_faults s.store };
-
-    ghost clashes = { λ s. dir_clashes s.store };
+    ghost seen = { λ s. dir_seen s.store };
 
     fn list(&mut self, folder: &str, from: &str) -> Result<Vec<Entry>, StoreError> {
         self.store.list(folder, from)

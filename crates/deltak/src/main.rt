@@ -5,8 +5,6 @@
 mod early;
 mod folder;
 mod program;
-#[cfg(test)]
-mod tests;
 
 use std::process::ExitCode;
 

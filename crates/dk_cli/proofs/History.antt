@@ -1,15 +1,16 @@
 -- Over a whole log, what `show` gives is the text of the fold.
-use Rattle.std.proofs.Common.{◌≡◌, ℕ, ℤ, ◌+◌, List, length, take, refl, ap, sym, ◌∙◌}
+use Rattle.std.proofs.Common.{◌≡◌, ℕ, ℤ, ◌+◌, false, List, length, take, ap, sym, subst, ◌∙◌}
 use Rattle.std.specs.Prelude.{Option, Some, None, Result, Ok, IfSome}
 use Rattle.dk_store.specs.Told.{Told}
 use Rattle.dk_model.specs.declared.action.Action.{Action}
 use Rattle.dk_model.specs.State.{fold}
 use Rattle.dk_engine.specs.declared.refusal.Refusal.{Refusal}
 use Rattle.dk_engine.specs.declared.refusal.Refusal.TheVariants as refusals
+use Rattle.dk_lawful.specs.declared.segment.Choice.{Choice}
 use Rattle.dk_engine.specs.declared.limits.Limits.{Limits}
 use Rattle.dk_snapshot.specs.History.{IsLog, EndsWith, AreWithin, AsksFor}
 use Rattle.dk_snapshot.specs.Support.{IsRead, cut_before}
-use Rattle.dk_snapshot.specs.Opening.{snapshot_with, with_cut, usual_choice}
+use Rattle.dk_snapshot.specs.Opening.{snapshot_with, with_cut}
 use Rattle.dk_snapshot.specs.Steps.{oldest_path}
 use Rattle.dk_snapshot.proofs.History.{cut_is}
 use Rattle.dk_snapshot.proofs.PlainLog.{segment_at, opened_is}
@@ -19,6 +20,8 @@ use Rattle.dk_cli.specs.Show.{show, text_of_opened}
 use Rattle.dk_cli.specs.Shown.{shown}
 use Rattle.dk_cli.specs.Run.{Answers}
 use Rattle.dk_cli.specs.History.{Shows, ShowsLog}
+use Rattle.dk_cli.specs.declared.words.Command.{Command}
+use Rattle.dk_cli.specs.declared.words.Command.TheVariants as commands
 
 answers_shows : (told : Result (List ℕ) Refusal) (text : List ℕ) (old new : Option (List ℕ)) (status : Status) → told ≡ Ok text → Answers told old status new → Shows text old status new
 answers_shows told text old new statuses.Done e (t, m, n) = let same : t ≡ text = cc in rw (← same) n
@@ -31,19 +34,29 @@ answers_shows told text old new statuses.Usage e h = h
 answers_shows told text old new statuses.SourceFault e h = h
 
 -- the text of a version of a log, where it is one that is read
-show_log : (events : List Told) (limits : Limits) (at : Option ℕ) (now : ℤ) (log : List (List Action)) (version : ℕ) (kept : ℤ) → IsLog events log → EndsWith events (length log) → AreWithin limits.object events → AsksFor at log version → IsRead (fold (take (version + 1) log)) kept
-    → show events limits at now ≡ Ok (shown version (fold (take (version + 1) log)) (cut_before now kept))
-show_log events limits at now log version kept is ends within asks read =
-    ap text_of_opened (opened_is events log limits at usual_choice version now refl is ends within asks)
-    ∙ ap (λ cut. text_of_opened (snapshot_with version (segment_at events version usual_choice) (with_cut (fold (take (version + 1) log)) cut)))
-    (cut_is (oldest_path (segment_at events version usual_choice).steps) (fold (take (version + 1) log)) kept now read)
+show_log : (events : List Told) (limits : Limits) (at : Option ℕ) (choice : Choice) (now : ℤ) (log : List (List Action)) (version : ℕ) (kept : ℤ) → choice.staged_first ≡ false → IsLog events log → EndsWith events (length log)
+    → AreWithin limits.object events → AsksFor at log version → IsRead (fold (take (version + 1) log)) kept → show events limits at choice now ≡ Ok (shown version (fold (take (version + 1) log)) (cut_before now kept))
+show_log events limits at choice now log version kept published is ends within asks read =
+    ap text_of_opened (opened_is events log limits at choice version now published is ends within asks)
+    ∙ ap (λ cut. text_of_opened (snapshot_with version (segment_at events version choice) (with_cut (fold (take (version + 1) log)) cut)))
+    (cut_is (oldest_path (segment_at events version choice).steps) (fold (take (version + 1) log)) kept now read)
+
+-- what was asked for is what the words ask for, at the moment of the call
+pub as_asked : (told : Option (List Told)) (limits : Limits) (asked : Option Command) (given at : Option ℕ) (chosen choice : Choice) (now passed : ℤ) (old new : Option (List ℕ)) (status : Status)
+    → asked ≡ Some (commands.Show given chosen) → asked ≡ Some (commands.Show at choice) → passed ≡ now
+    → IfSome told (λ events. Answers (show events limits given chosen passed) old status new) → IfSome told (λ events. Answers (show events limits at choice now) old status new)
+as_asked told limits asked given at chosen choice now passed old new status one other same answers =
+    let alike : ◌≡◌ {A = Option Command} (Some (commands.Show given chosen)) (Some (commands.Show at choice)) = sym one ∙ other in
+    let version : given ≡ at = cc in
+    let choices : chosen ≡ choice = cc in
+    subst (λ (n : ℤ). IfSome told (λ events. Answers (show events limits at choice n) old status new)) same
+    (subst (λ (c : Choice). IfSome told (λ events. Answers (show events limits at c passed) old status new)) choices
+    (subst (λ (a : Option ℕ). IfSome told (λ events. Answers (show events limits a chosen passed) old status new)) version answers))
 
 -- the program's answer over a store that tells a whole log
-pub whole_log : (told : Option (List Told)) (limits : Limits) (asked : Option (Option ℕ)) (given at : Option ℕ) (now passed : ℤ) (old new : Option (List ℕ)) (status : Status) → asked ≡ Some given → asked ≡ Some at → passed ≡ now
-    → IfSome told (λ events. Answers (show events limits given passed) old status new) → IfSome told (λ events. ShowsLog events limits at now old status new)
-whole_log None limits asked given at now passed old new status one other same h = tt
-whole_log (Some events) limits asked given at now passed old new status one other same h = λ log version kept is ends within asks read.
-    let alike : ◌≡◌ {A = Option (Option ℕ)} (Some given) (Some at) = sym one ∙ other in
-    let version_asked : given ≡ at = cc in
-    answers_shows (show events limits given passed) (shown version (fold (take (version + 1) log)) (cut_before now kept)) old new status
-    (ap (show events limits given) same ∙ ap (λ a. show events limits a now) version_asked ∙ show_log events limits at now log version kept is ends within asks read) h
+pub whole_log : (told : Option (List Told)) (limits : Limits) (at : Option ℕ) (choice : Choice) (now : ℤ) (old new : Option (List ℕ)) (status : Status)
+    → IfSome told (λ events. Answers (show events limits at choice now) old status new) → IfSome told (λ events. ShowsLog events limits at choice now old status new)
+whole_log None limits at choice now old new status answers = tt
+whole_log (Some events) limits at choice now old new status answers = λ log version kept is ends by_commits within asks read.
+    answers_shows (show events limits at choice now) (shown version (fold (take (version + 1) log)) (cut_before now kept)) old new status
+    (show_log events limits at choice now log version kept by_commits.published is ends within asks read) answers

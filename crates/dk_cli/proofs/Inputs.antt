@@ -1,17 +1,30 @@
 -- One more piece of the input, over what a source may tell.
-use Rattle.std.proofs.Common.{◌≡◌, ℕ, ◌≤◌, List, ◌++◌, length, take, Option, Some, None, refl, ap, sym, ◌∙◌, append_assoc}
+use Rattle.std.proofs.Common.{◌≡◌, ℕ, ◌≤◌, ◌+◌, List, ◌++◌, length, length-append, take, Option, Some, None, refl, ap, sym, ◌∙◌, append_assoc, arith}
 use Rattle.std.specs.Prelude.{IfSome}
-use Rattle.std.proofs.lemmas.List.{take-append-le}
+use Rattle.std.proofs.lemmas.List.{length-take-le, take-append-le}
 use Rattle.dk_store.specs.Stream.{before}
 use Rattle.dk_engine.specs.declared.limits.Limits.{Limits}
 use Rattle.dk_engine.specs.declared.limits.Which.{Which}
 use Rattle.dk_cli.specs.Input.{first_passed_from, first_passed}
+use Rattle.dk_cli.specs.Reading.{TakesAtMost}
 use Rattle.dk_cli.proofs.Scans.{limit_behind}
 
 -- what was left at first, by what is left after one more piece
 one_more_piece : (bytes piece : List ℕ) (initial old now : Option (List ℕ)) → initial ≡ before bytes old → old ≡ before piece now → initial ≡ before (bytes ++ piece) now
 one_more_piece bytes piece initial old None first here = first ∙ ap (before bytes) here
 one_more_piece bytes piece initial old (Some rest) first here = first ∙ ap (before bytes) here ∙ ap Some (sym (append_assoc bytes piece rest))
+
+taken_most : (bytes : List ℕ) (most : ℕ) (initial now : Option (List ℕ)) → initial ≡ before bytes now → length bytes ≤ most → TakesAtMost most initial now
+taken_most bytes most initial None is few = rw is tt
+taken_most bytes most initial (Some rest) is few = rw is (let sizes : length (bytes ++ rest) ≡ length bytes + length rest = length-append bytes rest in omega (arith, sizes, few))
+
+-- with some first bytes of a buffer more at most so many are taken
+pub at_most : (bytes buffer : List ℕ) (count most : ℕ) (initial old now : Option (List ℕ)) → initial ≡ before bytes old → old ≡ before (take count buffer) now → count ≤ length buffer
+    → length bytes + count ≤ most → TakesAtMost most initial now
+at_most bytes buffer count most initial old now first here le few =
+    let piece : length (take count buffer) ≡ count = length-take-le count buffer le in
+    let sizes : length (bytes ++ take count buffer) ≡ length bytes + length (take count buffer) = length-append bytes (take count buffer) in
+    taken_most (bytes ++ take count buffer) most initial now (one_more_piece bytes (take count buffer) initial old now first here) (omega (arith, sizes, piece, few))
 
 module _ (bytes taken tail : List ℕ) (count : ℕ) (le : count ≤ length taken) (initial old now : Option (List ℕ)) (first : initial ≡ before bytes old) (here : old ≡ before (take count taken) now) where
   same : take count (taken ++ tail) ≡ take count taken

@@ -7,3 +7,5 @@ pub mod ShownHistory
 pub mod Inputs
 pub mod Scans
 pub mod Versions
+pub mod Once
+pub mod Touching

@@ -45,10 +45,15 @@ TakesActions (Err statuses.Done) meant = ⊥
 TakesActions (Err statuses.Usage) meant = ⊥
 TakesActions (Err statuses.SinkFault) meant = ⊥
 
--- the program ends with it where the input has no actions
-abbrev pub IsEnding : Status → Type 0
-IsEnding (statuses.Refused refusal) = Unit {0}
-IsEnding statuses.SourceFault = Unit {0}
-IsEnding statuses.Done = ⊥
-IsEnding statuses.Usage = ⊥
-IsEnding statuses.SinkFault = ⊥
+-- ---- what may come where the input has no actions
+
+abbrev pub InputRefuses : Refusal → Type 0
+InputRefuses refusals.OutOfMemory = Unit {0}
+InputRefuses (refusals.Damaged path line) = Unit {0}
+InputRefuses (refusals.Limit which value) = Unit {0}
+InputRefuses refusal = ⊥
+
+abbrev pub InputEnds : Status → Type 0
+InputEnds statuses.SourceFault = Unit {0}
+InputEnds (statuses.Refused refusal) = InputRefuses refusal
+InputEnds status = ⊥

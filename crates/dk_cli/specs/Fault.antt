@@ -71,6 +71,7 @@ refusal_object (refusals.Gone path) = named_object (codes "gone") (path_object p
 refusal_object refusals.NotBegun = named_object (codes "notBegun") no_object
 refusal_object (refusals.NoSpare count) = named_object (codes "noSpare") (number_object (codes "count") count)
 
+-- the answer object of a status; none of Done
 abbrev pub fault_object : Status → Option Data
 fault_object statuses.Done = None
 fault_object statuses.Usage = Some (named_object (codes "usage") no_object)
@@ -78,5 +79,6 @@ fault_object statuses.SinkFault = Some (named_object (codes "sink") no_object)
 fault_object statuses.SourceFault = Some (named_object (codes "source") no_object)
 fault_object (statuses.Refused refusal) = Some (refusal_object refusal)
 
+-- the answer object as one compact line of JSON
 abbrev pub fault_text : Status → Option (List ℕ)
 fault_text status = option_map compact_text (fault_object status)

@@ -1,9 +1,14 @@
 -- What the promise on `show` wants of an answer.
-use Rattle.std.specs.Prelude.{ℕ, ℤ, ◌≡◌, ◌+◌, List, Option, length, take}
+use Rattle.std.specs.Prelude.{ℕ, ℤ, ◌≡◌, ◌+◌, false, All, List, [], Option, length, take, codes}
 use Rattle.dk_store.specs.Told.{Told}
+use Rattle.dk_store.specs.Listing.{listing}
 use Rattle.dk_store.specs.Stream.{more}
+use Rattle.dk_paths.specs.declared.log_name.LogName.{LogName}
+use Rattle.dk_paths.specs.declared.log_name.LogName.TheVariants as names
+use Rattle.dk_paths.specs.Names.{name_of}
 use Rattle.dk_model.specs.declared.action.Action.{Action}
 use Rattle.dk_model.specs.State.{fold}
+use Rattle.dk_lawful.specs.declared.segment.Choice.{Choice}
 use Rattle.dk_engine.specs.declared.limits.Limits.{Limits}
 use Rattle.dk_snapshot.specs.History.{IsLog, EndsWith, AreWithin, AsksFor}
 use Rattle.dk_snapshot.specs.Support.{IsRead, cut_before}
@@ -22,9 +27,21 @@ Shows text old (statuses.Refused refusal) new = ⊥
 Shows text old statuses.Usage new = ⊥
 Shows text old statuses.SourceFault new = ⊥
 
+-- neither a checkpoint's object nor a compacted file
+abbrev pub IsNoSum : LogName → Type 0
+IsNoSum (names.Commit version) = Unit {0}
+IsNoSum names.Hint = Unit {0}
+IsNoSum names.Other = Unit {0}
+IsNoSum name = ⊥
+
+-- the log is read from its commits: its folder has no checkpoint and no compacted file, and published commits come before staged ones
+pub record IsReadByCommits (events : List Told) (choice : Choice) : Type 0 where
+  pub no_sums : All (λ entry. IsNoSum (name_of entry.name)) (listing events (codes "_delta_log") [])
+  pub published : choice.staged_first ≡ false
+
 -- Over a log of commit files alone, none over the limit, of which the asked version is one that is read, the answer shows the fold of the
 -- commits up to it.
-abbrev pub ShowsLog : List Told → Limits → Option ℕ → ℤ → Option (List ℕ) → Status → Option (List ℕ) → Type 0
-ShowsLog events limits at now old status new =
-    (log : List (List Action)) (version : ℕ) (kept : ℤ) → IsLog events log → EndsWith events (length log) → AreWithin limits.object events → AsksFor at log version → IsRead (fold (take (version + 1) log)) kept
-    → Shows (shown version (fold (take (version + 1) log)) (cut_before now kept)) old status new
+abbrev pub ShowsLog : List Told → Limits → Option ℕ → Choice → ℤ → Option (List ℕ) → Status → Option (List ℕ) → Type 0
+ShowsLog events limits at choice now old status new =
+    (log : List (List Action)) (version : ℕ) (kept : ℤ) → IsLog events log → EndsWith events (length log) → IsReadByCommits events choice → AreWithin limits.object events → AsksFor at log version
+    → IsRead (fold (take (version + 1) log)) kept → Shows (shown version (fold (take (version + 1) log)) (cut_before now kept)) old status new

@@ -11,3 +11,5 @@ pub mod Seen
 pub mod Actions
 pub mod Reading
 pub mod Commit
+pub mod Endings
+pub mod Effects

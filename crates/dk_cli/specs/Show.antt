@@ -4,7 +4,8 @@ use Rattle.dk_store.specs.Told.{Told}
 use Rattle.dk_engine.specs.declared.refusal.Refusal.{Refusal}
 use Rattle.dk_engine.specs.declared.limits.Limits.{Limits}
 use Rattle.dk_snapshot.specs.declared.table.Snapshot.{Snapshot}
-use Rattle.dk_snapshot.specs.Opening.{opened, usual_choice}
+use Rattle.dk_lawful.specs.declared.segment.Choice.{Choice}
+use Rattle.dk_snapshot.specs.Opening.{opened}
 use Rattle.dk_cli.specs.Shown.{shown}
 
 -- the text of a snapshot
@@ -15,6 +16,6 @@ abbrev pub text_of_opened : Result Snapshot Refusal → Result (List ℕ) Refusa
 text_of_opened (Ok snapshot) = Ok (text_of_snapshot snapshot)
 text_of_opened (Err refusal) = Err refusal
 
--- what `show` answers over a store with these events under these limits, of the asked version or the latest one, at a moment
-abbrev pub show : List Told → Limits → Option ℕ → ℤ → Result (List ℕ) Refusal
-show events limits at now = text_of_opened (opened events limits at usual_choice now)
+-- what `show` answers over a store with these events under these limits, of the asked version or the latest one, under a choice, at a moment
+abbrev pub show : List Told → Limits → Option ℕ → Choice → ℤ → Result (List ℕ) Refusal
+show events limits at choice now = text_of_opened (opened events limits at choice now)

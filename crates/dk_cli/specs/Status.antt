@@ -4,6 +4,7 @@ use Rattle.dk_cli.specs.declared.status.Status.{Status}
 use Rattle.dk_cli.specs.declared.status.Status.TheVariants as statuses
 use Rattle.dk_engine.specs.declared.refusal.Refusal.TheVariants as refusals
 
+-- 0 for Done, 2 for Usage, 10 and 11 for a fault of the sink and of the source, and a number for each refusal
 abbrev pub code_of : Status → ℕ
 code_of statuses.Done = 0
 code_of statuses.Usage = 2

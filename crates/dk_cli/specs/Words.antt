@@ -1,11 +1,14 @@
 -- The command line.
-use Rattle.std.specs.Prelude.{ℕ, ◌^◌, ◌&&◌, nat_le, nat_lt, Bool, List, [], ◌∷◌, Option, Some, None, is_some, option_map, option_and_then, length, map, string_bytes, codes, String, if◌then◌else◌}
+use Rattle.std.specs.Prelude.{ℕ, ◌^◌, ◌&&◌, nat_le, nat_lt, Bool, List, [], ◌∷◌, Option, Some, None, option_map, option_and_then, length, map, string_bytes, codes, String, if◌then◌else◌}
 use Rattle.std.specs.Global.{Global}
 use Rattle.std.specs.Str.{bytes_eq, all_ascii_digits}
 use Rattle.std.specs.Str.Parse.{digits_value}
 use Rattle.dk_store.specs.Listing.{behind}
 use Rattle.dk_conflicts.specs.declared.reads.Reads.{Reads}
 use Rattle.dk_conflicts.specs.declared.reads.Reads.TheVariants as reads
+use Rattle.dk_snapshot.specs.Opening.{usual_choice}
+use Rattle.dk_cli.specs.declared.words.Command.{Command}
+use Rattle.dk_cli.specs.declared.words.Command.TheVariants as commands
 
 -- by its bytes
 abbrev pub words_of : List (String Global) → List (List ℕ)
@@ -35,10 +38,8 @@ abbrev pub version_asked : List (List ℕ) → Option (Option ℕ)
 version_asked [] = Some None
 version_asked (word ∷ words) = option_map Some (option_and_then version_of (value_of (codes "--at") (codes "--at=") (word ∷ words)))
 
--- no answer where the words aren't those of `show`
-abbrev pub show_of : List (List ℕ) → Option (Option ℕ)
-show_of [] = None
-show_of (word ∷ options) = if bytes_eq word (codes "show") then version_asked options else None
+abbrev pub show_of : List (List ℕ) → Option Command
+show_of options = option_map (λ at. commands.Show at usual_choice) (version_asked options)
 
 -- what the transaction of `commit` has read, by the word for it
 abbrev pub reads_named : List ℕ → Option Reads
@@ -48,11 +49,10 @@ abbrev pub reads_asked : List (List ℕ) → Option Reads
 reads_asked [] = Some reads.Nothing
 reads_asked (word ∷ words) = option_and_then reads_named (value_of (codes "--reads") (codes "--reads=") (word ∷ words))
 
--- no answer where the words aren't those of `commit`
-abbrev pub commit_of : List (List ℕ) → Option Reads
-commit_of [] = None
-commit_of (word ∷ options) = if bytes_eq word (codes "commit") then reads_asked options else None
+abbrev pub commit_of : List (List ℕ) → Option Command
+commit_of options = option_map commands.Commit (reads_asked options)
 
--- whether the words are those of `commit`
-abbrev pub is_commit : List (List ℕ) → Bool
-is_commit words = is_some (commit_of words)
+-- the command that the words ask for; none where they aren't those of one
+abbrev pub command_of : List (List ℕ) → Option Command
+command_of [] = None
+command_of (word ∷ options) = if bytes_eq word (codes "show") then show_of options else if bytes_eq word (codes "commit") then commit_of options else None

@@ -1,9 +1,9 @@
 //! The actions of the program's input, one a line.
-ghost use Rattle.std.specs.Prelude.{◌≡◌, ◌≤◌, ◌<◌, ◌^◌, [], List, ℕ, Err, IfErr, IfSome, OnOk};
-ghost use Rattle.dk_store.specs.Causes.{Rose};
+ghost use Rattle.std.specs.Prelude.{◌≡◌, ◌≤◌, ◌<◌, ◌^◌, ◌+◌, ◌↔◌, [], List, ℕ, Err, IfErr, IfSome, OnOk};
 ghost use Rattle.dk_model.specs.CommitText.{reading_of};
 ghost use Rattle.dk_engine.specs.Answers.{Gives};
-ghost use Rattle.dk_cli.specs.Actions.{actions_of, one_past, read_actions, IsEnding, TakesActions};
+ghost use Rattle.dk_cli.specs.Actions.{actions_of, one_past, read_actions, InputEnds, InputRefuses, TakesActions};
+ghost use Rattle.dk_cli.specs.Effects.{ReadsSource};
 ghost use Rattle.dk_cli.specs.Reading.{StopsReading};
 
 use crate::input::{Unread, read_input};
@@ -31,8 +31,7 @@ fn one_past(limits: Limits, which: Which) -> u64
 /// The actions of these bytes.
 fn read_bytes(alloc: Global, json: &mut dyn JsonHandler, bytes: &[u8]) -> Result<Commit, Refusal>
     ensures means { Gives (λ commit. commit) result (read_actions (reading_of bytes.now)) }
-    ensures store { result ≡ Err Refusal.Store → ⊥ }
-    ensures taken { (path : List ℕ) → result ≡ Err (Refusal.Taken path) → ⊥ }
+    ensures refusals { IfErr result InputRefuses }
 {
     match json.read_commit(alloc, bytes) {
         Ok(commit) => Ok(commit),
@@ -50,10 +49,8 @@ fn unread_status(limits: Limits, unread: Unread) -> Status
     requires line { limits.line < 2 ^ 62 }
     requires lines { limits.lines < 2 ^ 62 }
     ensures means { (left : List ℕ) → StopsReading limits unread left → TakesActions (Err result) (actions_of limits left) }
-    ensures source { result ≡ Status.SourceFault → unread ≡ Unread.Source }
-    ensures store { result ≡ Status.Refused Refusal.Store → ⊥ }
-    ensures taken { (path : List ℕ) → result ≡ Status.Refused (Refusal.Taken path) → ⊥ }
-    ensures ends { IsEnding result }
+    ensures source { (result ≡ Status.SourceFault) ↔ (unread ≡ Unread.Source) }
+    ensures ends { InputEnds result }
 {
     match unread {
         Unread::Source => Status::SourceFault,
@@ -75,13 +72,9 @@ pub(crate) fn take_actions<I: Source>(
     requires input { limits.input < 2 ^ 62 }
     requires line { limits.line < 2 ^ 62 }
     requires lines { limits.lines < 2 ^ 62 }
-    ensures means { IfSome (I.left input.old) (λ left. TakesActions result (actions_of limits left)) }
-    ensures at_end { OnOk result (IfSome (I.left input.new) (λ left. left ≡ [])) }
-    ensures source { result ≡ Err Status.SourceFault → Rose (I.source_faults input.old) (I.source_faults input.new) }
-    ensures later { I.source_faults input.old ≤ I.source_faults input.new }
-    ensures store { result ≡ Err (Status.Refused Refusal.Store) → ⊥ }
-    ensures taken { (path : List ℕ) → result ≡ Err (Status.Refused (Refusal.Taken path)) → ⊥ }
-    ensures ends { IfErr result (λ status. IsEnding status) }
+    ensures means { IfSome (I.source_seen input.old).left (λ left. TakesActions result (actions_of limits left)) }
+    ensures reads { ReadsSource (limits.input + 1) (I.source_seen input.old) (I.source_seen input.new) result }
+    ensures ends { IfErr result InputEnds }
 {
     match read_input(alloc, input, limits) {
         Ok(bytes) => match read_bytes(alloc, json, &bytes) {

@@ -1,14 +1,18 @@
 //! The command `commit`: the actions of the input become the next version.
-ghost use Rattle.std.specs.Prelude.{◌≡◌, ◌≤◌, [], ℕ, List, Err, IfErr, IfSome, OnOk, is_some};
-ghost use Rattle.dk_store.specs.Causes.{Rose};
+ghost use Rattle.std.specs.Prelude.{◌≡◌, ◌+◌, ℕ, List, Err, IfErr, IfSome};
+ghost use Rattle.dk_store.specs.Seen.{IfTold};
+ghost use Rattle.dk_engine.specs.Effects.{MayPut};
 ghost use Rattle.dk_engine.specs.Held.{held};
 ghost use Rattle.dk_engine.specs.Usual.{AreWithin};
 ghost use Rattle.dk_lawful.specs.Kept.{IfBoth, KeepsLawful};
 ghost use Rattle.dk_txn.specs.Attempt.{attempt, own_commit};
-ghost use Rattle.dk_txn.specs.Commits.{Commits, SaysHistory};
-ghost use Rattle.dk_cli.specs.Actions.{actions_of, IsEnding, TakesActions};
-ghost use Rattle.dk_cli.specs.Commit.{CommitAnswers, CommitEnds, GivesLine, InputSays, SaysEnd};
-ghost use Rattle.dk_cli.specs.Run.{IsUnwritten};
+ghost use Rattle.dk_txn.specs.Commits.{Commits, RoseTwice, SaysHistory};
+ghost use Rattle.dk_cli.specs.Actions.{actions_of, InputEnds, TakesActions};
+ghost use Rattle.dk_cli.specs.Commit.{CommitAnswers, CommitEnds, EndsTransacting, GivesLine, InputFirst, InputSays, InputTransacts, SaysEnd, SaysOnce};
+ghost use Rattle.dk_cli.specs.Effects.{PutsInStore, ReadsSource, TakesFromSource, WritesToSink};
+ghost use Rattle.dk_cli.specs.Endings.{CommitMayEnd};
+ghost use Rattle.dk_txn.specs.Refusals.{CommitAtLatestRefuses};
+ghost use Rattle.dk_txn.specs.Transactions.{Transacts};
 
 use crate::actions::take_actions;
 use crate::status::Status;
@@ -29,15 +33,14 @@ fn commit(
     now: i64,
     base: u128,
 ) -> Result<Committed, Refusal>
-    ensures commits { IfSome (told (held engine.old.store)) (λ events. Commits (attempt events engine.old.limits actions now base) events result (told (held engine.new.store))) }
-    ensures alike { is_some (told (held engine.new.store)) ≡ is_some (told (held engine.old.store)) }
+    ensures puts { MayPut (seen (held engine.old.store)) (seen (held engine.new.store)) result }
+    ensures twice { (path : List ℕ) → result ≡ Err (Refusal.Taken path) → RoseTwice (seen (held engine.old.store)).clashes (seen (held engine.new.store)).clashes }
+    ensures refusals { IfErr result CommitAtLatestRefuses }
+    ensures commits { IfTold (seen (held engine.old.store)) (λ events. Commits (attempt events engine.old.limits actions now base) events result (seen (held engine.new.store)).told) }
+    ensures transacts { Transacts engine.old.limits now reads actions base (seen (held engine.old.store)).told result (seen (held engine.new.store)).told }
+    ensures lawful { KeepsLawful (seen (held engine.old.store)).told (seen (held engine.new.store)).told }
+    ensures history { IfBoth (seen (held engine.old.store)).told (seen (held engine.new.store)).told (SaysHistory (own_commit base actions) result) }
     ensures limits { engine.new.limits ≡ engine.old.limits }
-    ensures later { store_faults (held engine.old.store) ≤ store_faults (held engine.new.store) }
-    ensures clashes_later { clashes (held engine.old.store) ≤ clashes (held engine.new.store) }
-    ensures store { result ≡ Err Refusal.Store → Rose (store_faults (held engine.old.store)) (store_faults (held engine.new.store)) }
-    ensures taken { (path : List ℕ) → result ≡ Err (Refusal.Taken path) → Rose (clashes (held engine.old.store)) (clashes (held engine.new.store)) }
-    ensures lawful { KeepsLawful (told (held engine.old.store)) (told (held engine.new.store)) }
-    ensures history { IfBoth (told (held engine.old.store)) (told (held engine.new.store)) (SaysHistory (own_commit base actions) result) }
 {
     let limits = engine.limits;
     commit_at_latest(
@@ -54,10 +57,8 @@ fn commit(
 
 /// Gives the line of a version to the sink.
 fn give_committed<O: Sink>(alloc: Global, out: &mut O, version: u64) -> Status
-    ensures line { GivesLine version (O.taken out.old) result (O.taken out.new) }
-    ensures sink { result ≡ Status.SinkFault → Rose (O.sink_faults out.old) (O.sink_faults out.new) }
-    ensures later { O.sink_faults out.old ≤ O.sink_faults out.new }
-    ensures unwritten { IsUnwritten result (O.taken out.old) (O.taken out.new) }
+    ensures line { GivesLine version (O.sink_seen out.old).taken result (O.sink_seen out.new).taken }
+    ensures writes { WritesToSink (O.sink_seen out.old) (O.sink_seen out.new) result }
 {
     let Ok(text) = committed_text(alloc, version) else {
         return Status::Refused(Refusal::OutOfMemory);
@@ -78,20 +79,16 @@ fn commit_actions<O: Sink>(
     now: i64,
     base: u128,
 ) -> Status
-    ensures answer { IfSome (told (held engine.old.store)) (λ events. CommitEnds (attempt events engine.old.limits actions now base) events (O.taken out.old) result (O.taken out.new) (told (held engine.new.store))) }
-    ensures alike { is_some (told (held engine.new.store)) ≡ is_some (told (held engine.old.store)) }
-    ensures lawful { KeepsLawful (told (held engine.old.store)) (told (held engine.new.store)) }
-    ensures history { IfBoth (told (held engine.old.store)) (told (held engine.new.store)) (SaysEnd (own_commit base actions) result (O.taken out.old) (O.taken out.new)) }
+    ensures puts { PutsInStore (seen (held engine.old.store)) (seen (held engine.new.store)) result }
+    ensures writes { WritesToSink (O.sink_seen out.old) (O.sink_seen out.new) result }
+    ensures ends { CommitMayEnd result }
+    ensures no_source { result ≡ Status.SourceFault → ⊥ }
+    ensures answer { IfTold (seen (held engine.old.store)) (λ events. CommitEnds (attempt events engine.old.limits actions now base) events (O.sink_seen out.old).taken result (O.sink_seen out.new).taken (seen (held engine.new.store)).told) }
+    ensures transacts { EndsTransacting engine.old.limits now reads actions base (seen (held engine.old.store)).told result (seen (held engine.new.store)).told }
+    ensures lawful { KeepsLawful (seen (held engine.old.store)).told (seen (held engine.new.store)).told }
+    ensures history { IfBoth (seen (held engine.old.store)).told (seen (held engine.new.store)).told (SaysEnd (own_commit base actions) result (O.sink_seen out.old).taken (O.sink_seen out.new).taken) }
+    ensures once { IfBoth (seen (held engine.old.store)).told (seen (held engine.new.store)).told (SaysOnce base result) }
     ensures limits { engine.new.limits ≡ engine.old.limits }
-    ensures store_later { store_faults (held engine.old.store) ≤ store_faults (held engine.new.store) }
-    ensures clashes_later { clashes (held engine.old.store) ≤ clashes (held engine.new.store) }
-    ensures sink_later { O.sink_faults out.old ≤ O.sink_faults out.new }
-    ensures usage { result ≡ Status.Usage → ⊥ }
-    ensures source { result ≡ Status.SourceFault → ⊥ }
-    ensures sink { result ≡ Status.SinkFault → Rose (O.sink_faults out.old) (O.sink_faults out.new) }
-    ensures store { result ≡ Status.Refused Refusal.Store → Rose (store_faults (held engine.old.store)) (store_faults (held engine.new.store)) }
-    ensures taken { (path : List ℕ) → result ≡ Status.Refused (Refusal.Taken path) → Rose (clashes (held engine.old.store)) (clashes (held engine.new.store)) }
-    ensures unwritten { IsUnwritten result (O.taken out.old) (O.taken out.new) }
 {
     match commit(alloc, engine, reads, actions, now, base) {
         Err(refusal) => Status::Refused(refusal),
@@ -106,13 +103,9 @@ fn read_actions<I: Source>(
     input: &mut I,
 ) -> Result<Commit, Status>
     requires { AreWithin engine.old.limits }
-    ensures means { IfSome (I.left input.old) (λ left. TakesActions result (actions_of engine.old.limits left)) }
-    ensures at_end { OnOk result (IfSome (I.left input.new) (λ left. left ≡ [])) }
-    ensures source { result ≡ Err Status.SourceFault → Rose (I.source_faults input.old) (I.source_faults input.new) }
-    ensures later { I.source_faults input.old ≤ I.source_faults input.new }
-    ensures store { result ≡ Err (Status.Refused Refusal.Store) → ⊥ }
-    ensures taken { (path : List ℕ) → result ≡ Err (Status.Refused (Refusal.Taken path)) → ⊥ }
-    ensures ends { IfErr result (λ status. IsEnding status) }
+    ensures means { IfSome (I.source_seen input.old).left (λ left. TakesActions result (actions_of engine.old.limits left)) }
+    ensures reads { ReadsSource (engine.old.limits.input + 1) (I.source_seen input.old) (I.source_seen input.new) result }
+    ensures ends { IfErr result InputEnds }
     ensures same { engine.new.store ≡ engine.old.store }
     ensures limits { engine.new.limits ≡ engine.old.limits }
 {
@@ -130,24 +123,20 @@ pub(crate) fn commit_command<I: Source, O: Sink>(
     base: u128,
 ) -> Status
     requires { AreWithin engine.old.limits }
-    ensures answer { IfSome (told (held engine.old.store)) (λ events. IfSome (I.left input.old) (λ left.
-        CommitAnswers (actions_of engine.old.limits left) (λ actions. attempt events engine.old.limits actions now base) events (O.taken out.old) result (O.taken out.new) (told (held engine.new.store)))) }
-    ensures read { result ≡ Status.Done → IfSome (I.left input.new) (λ left. left ≡ []) }
-    ensures alike { is_some (told (held engine.new.store)) ≡ is_some (told (held engine.old.store)) }
-    ensures lawful { KeepsLawful (told (held engine.old.store)) (told (held engine.new.store)) }
-    ensures history { IfSome (I.left input.old) (λ left. IfBoth (told (held engine.old.store)) (told (held engine.new.store))
-        (InputSays (actions_of engine.old.limits left) base result (O.taken out.old) (O.taken out.new))) }
+    ensures puts { PutsInStore (seen (held engine.old.store)) (seen (held engine.new.store)) result }
+    ensures takes { TakesFromSource (engine.old.limits.input + 1) (I.source_seen input.old) (I.source_seen input.new) result }
+    ensures writes { WritesToSink (O.sink_seen out.old) (O.sink_seen out.new) result }
+    ensures ends { CommitMayEnd result }
+    ensures answer { IfTold (seen (held engine.old.store)) (λ events. IfSome (I.source_seen input.old).left (λ left.
+        CommitAnswers (actions_of engine.old.limits left) (λ actions. attempt events engine.old.limits actions now base) events (O.sink_seen out.old).taken result (O.sink_seen out.new).taken (seen (held engine.new.store)).told)) }
+    ensures transacts { IfSome (I.source_seen input.old).left (λ left. InputTransacts (actions_of engine.old.limits left) engine.old.limits now reads base (seen (held engine.old.store)).told result (seen (held engine.new.store)).told) }
+    ensures input_first { IfSome (I.source_seen input.old).left (λ left. InputFirst (actions_of engine.old.limits left) result engine.old.store engine.new.store) }
+    ensures unasked { result ≡ Status.SourceFault → engine.new.store ≡ engine.old.store }
+    ensures lawful { KeepsLawful (seen (held engine.old.store)).told (seen (held engine.new.store)).told }
+    ensures history { IfSome (I.source_seen input.old).left (λ left. IfBoth (seen (held engine.old.store)).told (seen (held engine.new.store)).told
+        (InputSays (actions_of engine.old.limits left) base result (O.sink_seen out.old).taken (O.sink_seen out.new).taken)) }
+    ensures once { IfBoth (seen (held engine.old.store)).told (seen (held engine.new.store)).told (SaysOnce base result) }
     ensures limits { engine.new.limits ≡ engine.old.limits }
-    ensures store_later { store_faults (held engine.old.store) ≤ store_faults (held engine.new.store) }
-    ensures clashes_later { clashes (held engine.old.store) ≤ clashes (held engine.new.store) }
-    ensures source_later { I.source_faults input.old ≤ I.source_faults input.new }
-    ensures sink_later { O.sink_faults out.old ≤ O.sink_faults out.new }
-    ensures usage { result ≡ Status.Usage → ⊥ }
-    ensures source { result ≡ Status.SourceFault → Rose (I.source_faults input.old) (I.source_faults input.new) }
-    ensures sink { result ≡ Status.SinkFault → Rose (O.sink_faults out.old) (O.sink_faults out.new) }
-    ensures store { result ≡ Status.Refused Refusal.Store → Rose (store_faults (held engine.old.store)) (store_faults (held engine.new.store)) }
-    ensures taken { (path : List ℕ) → result ≡ Status.Refused (Refusal.Taken path) → Rose (clashes (held engine.old.store)) (clashes (held engine.new.store)) }
-    ensures unwritten { IsUnwritten result (O.taken out.old) (O.taken out.new) }
 {
     match read_actions(alloc, engine, input) {
         Err(status) => status,

@@ -1,9 +1,9 @@
 //! The program's input, read to its end under its limits.
-ghost use Rattle.std.specs.Prelude.{◌≡◌, ◌≤◌, ◌<◌, ◌^◌, [], None, Err, IfOk, IfErr, IfSome, OnOk};
+ghost use Rattle.std.specs.Prelude.{◌≡◌, ◌≤◌, ◌<◌, ◌^◌, ◌+◌, [], None, Err, IfOk, IfErr, IfSome, OnOk};
 ghost use Rattle.dk_store.specs.Causes.{Rose};
 ghost use Rattle.dk_cli.specs.declared.input.Unread.TheVariants.{OutOfMemory};
 ghost use Rattle.dk_cli.specs.Input.{first_passed};
-ghost use Rattle.dk_cli.specs.Reading.{StopsReading};
+ghost use Rattle.dk_cli.specs.Reading.{StopsReading, TakesAtMost};
 
 use crate::scan::Scan;
 use dk_engine::{Limits, Which};
@@ -11,7 +11,7 @@ use dk_store::Source;
 use std::alloc::{AllocError, Global};
 
 /// Why the input was not read to its end.
-#[derive(Clone, Copy, Debug, PartialEq, Eq)]
+#[derive(Clone, Copy)]
 pub(crate) enum Unread {
     /// The source failed, and counted that.
     Source,
@@ -37,12 +37,13 @@ pub(crate) fn read_input<I: Source>(
     limits: Limits,
 ) -> Result<Vec<u8>, Unread>
     requires { limits.input < 2 ^ 62 }
-    ensures all { IfOk result (λ bytes. IfSome (I.left input.old) (λ left. bytes.items ≡ left)) }
+    ensures all { IfOk result (λ bytes. IfSome (I.source_seen input.old).left (λ left. bytes.items ≡ left)) }
     ensures within { IfOk result (λ bytes. first_passed limits bytes.items ≡ None) }
-    ensures at_end { OnOk result (IfSome (I.left input.new) (λ left. left ≡ [])) }
-    ensures stops { IfErr result (λ unread. IfSome (I.left input.old) (λ left. StopsReading limits unread left)) }
-    ensures source { result ≡ Err Unread.Source → Rose (I.source_faults input.old) (I.source_faults input.new) }
-    ensures later { I.source_faults input.old ≤ I.source_faults input.new }
+    ensures stops { IfErr result (λ unread. IfSome (I.source_seen input.old).left (λ left. StopsReading limits unread left)) }
+    ensures at_end { OnOk result (IfSome (I.source_seen input.new).left (λ left. left ≡ [])) }
+    ensures most { (result ≡ Err Unread.Source → ⊥) → TakesAtMost (limits.input + 1) (I.source_seen input.old).left (I.source_seen input.new).left }
+    ensures later { (I.source_seen input.old).faults ≤ (I.source_seen input.new).faults }
+    ensures source { result ≡ Err Unread.Source → Rose (I.source_seen input.old).faults (I.source_seen input.new).faults }
 {
     let mut bytes = Vec::new(alloc);
     let mut scan = Scan::new();

@@ -16,3 +16,4 @@ mod words;
 pub use fault::fault_line;
 pub use program::run;
 pub use status::Status;
+pub use words::Command;

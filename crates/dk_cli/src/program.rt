@@ -1,22 +1,28 @@
 //! The top call.
-ghost use Rattle.std.specs.Prelude.{◌≡◌, [], ◌≤◌, ◌↔◌, List, ℕ, Option, IfSome};
-ghost use Rattle.dk_store.specs.Causes.{Rose};
+ghost use Rattle.std.specs.Prelude.{◌≡◌, ◌+◌, ◌↔◌, ℕ, None, Option, IfSome};
+ghost use Rattle.dk_conflicts.specs.declared.reads.Reads.{Reads};
+ghost use Rattle.dk_lawful.specs.declared.segment.Choice.{Choice};
+ghost use Rattle.dk_store.specs.Seen.{IfTold};
 ghost use Rattle.dk_engine.specs.Held.{held};
 ghost use Rattle.dk_engine.specs.Usual.{AreWithin};
-ghost use Rattle.dk_lawful.specs.Kept.{IfBoth, KeepsLawful};
+ghost use Rattle.dk_lawful.specs.Kept.{IfBoth, KeepsLawful, KeepsLawfulPast};
 ghost use Rattle.dk_txn.specs.Attempt.{attempt};
 ghost use Rattle.dk_cli.specs.Actions.{actions_of};
-ghost use Rattle.dk_cli.specs.Commit.{CommitAnswers, InputSays};
+ghost use Rattle.dk_cli.specs.declared.words.Command.TheVariants as commands;
+ghost use Rattle.dk_cli.specs.Commit.{CommitAnswers, InputFirst, InputSays, InputTransacts, SaysOnce};
+ghost use Rattle.dk_cli.specs.Effects.{PutsInStore, ReadsStore, TakesFromSource, WritesToSink};
+ghost use Rattle.dk_cli.specs.Endings.{MayEnd, ShowMayEnd};
 ghost use Rattle.dk_cli.specs.Show.{show};
-ghost use Rattle.dk_cli.specs.Run.{AsksShow, IsCommit, IsNoCommand, Answers, IsUnwritten};
+ghost use Rattle.dk_cli.specs.Run.{Answers, Asks, LeavesInput, OnlyReads, TakesInput, asked, cut_for};
 ghost use Rattle.dk_cli.specs.History.{ShowsLog};
 ghost use Rattle.dk_cli.specs.ShownHistory.{ShowsHistory};
 
 use crate::commit::commit_command;
 use crate::show::show_text;
 use crate::status::Status;
-use crate::words::{commit_of, show_of};
+use crate::words::{Command, command_of};
 use dk_engine::{Engine, Refusal};
+use dk_lawful::Choice;
 use dk_store::{Failed, Sink, Source, Store, give_all};
 use std::alloc::Global;
 
@@ -26,23 +32,17 @@ fn show_command<O: Sink>(
     engine: &mut Engine,
     out: &mut O,
     at: Option<u64>,
+    choice: &Choice,
     now: i64,
 ) -> Status
-    ensures usage { result ≡ Status.Usage → ⊥ }
-    ensures source { result ≡ Status.SourceFault → ⊥ }
-    ensures sink { result ≡ Status.SinkFault → Rose (O.sink_faults out.old) (O.sink_faults out.new) }
-    ensures store { result ≡ Status.Refused Refusal.Store → Rose (store_faults (held engine.old.store)) (store_faults (held engine.new.store)) }
-    ensures taken { (path : List ℕ) → result ≡ Status.Refused (Refusal.Taken path) → ⊥ }
-    ensures same { told (held engine.new.store) ≡ told (held engine.old.store) }
-    ensures lawful { KeepsLawful (told (held engine.old.store)) (told (held engine.new.store)) }
-    ensures clashes { clashes (held engine.new.store) ≡ clashes (held engine.old.store) }
+    ensures reads { ReadsStore (seen (held engine.old.store)) (seen (held engine.new.store)) result }
+    ensures writes { WritesToSink (O.sink_seen out.old) (O.sink_seen out.new) result }
+    ensures ends { ShowMayEnd at result }
+    ensures answer { IfTold (seen (held engine.old.store)) (λ events. Answers (show events engine.old.limits at choice.now now) (O.sink_seen out.old).taken result (O.sink_seen out.new).taken) }
+    ensures lawful { KeepsLawful (seen (held engine.old.store)).told (seen (held engine.new.store)).told }
     ensures limits { engine.new.limits ≡ engine.old.limits }
-    ensures store_later { store_faults (held engine.old.store) ≤ store_faults (held engine.new.store) }
-    ensures sink_later { O.sink_faults out.old ≤ O.sink_faults out.new }
-    ensures unwritten { IsUnwritten result (O.taken out.old) (O.taken out.new) }
-    ensures answer { IfSome (told (held engine.old.store)) (λ events. Answers (show events engine.old.limits at now) (O.taken out.old) result (O.taken out.new)) }
 {
-    match show_text(alloc, engine, at, now) {
+    match show_text(alloc, engine, at, choice, now) {
         Err(refusal) => Status::Refused(refusal),
         Ok(text) => match give_all(out, &text) {
             Ok(()) => Status::Done,
@@ -54,12 +54,15 @@ fn show_command<O: Sink>(
 /// All that the program does: carries out the command that the words say over the engine, and ends with a status.
 ///
 /// `now` is the moment of the call in milliseconds since 1970-01-01T00:00:00Z, and `base` the first of the ids that a
-/// command may draw. By now the commands are `show` with `--at V` or without, and `commit` with `--reads nothing` or `--reads table` or without. The whole output is made first and given to
-/// the sink at the end; `commit` reads the input to its end; its transaction begins at the latest version, has read so much of it, and has the id `base`.
+/// command may draw. By now the commands are `show` with `--at V` or without, and `commit` with `--reads nothing` or
+/// `--reads table` or without. The whole output is made first and given to the sink at the end; `commit` reads the input to
+/// its end, before it asks the store; its transaction begins at the latest version, has read so much of it, and has the id
+/// `base`.
 ///
-/// `whole_log` is the promise on `show` in the subject's own words: over a log of commit files 0 to n, where nothing stands
-/// ratified, no checkpoint is listed and no commit is over the limit of objects, and whose version at hand is one that is
-/// read, the sink took exactly the text of that version as the fold of the commits up to it gives it. `show` says the
+/// `ends` names the statuses that each command may end with, over any store. `whole_log` is the promise on `show` in the
+/// subject's own words: over a log of commit files 0 to n, where no later version stands ratified, neither a checkpoint nor a
+/// compacted file is listed and no commit is over the limit of objects, and whose version at hand is one that is read, the sink
+/// took exactly the text of that version as the fold of the commits up to it gives it. `show` says the
 /// same of every log, and with it exactly when each refusal comes. `shows_history` says it of each lawful log by its history:
 /// what is shown is the asked version of the history, or its last one, with exactly the state that the history's commits up to
 /// it lead to; and a refusal says that a commit which the version needs is missing, that the version is above the last one,
@@ -77,44 +80,38 @@ pub fn run<I: Source, O: Sink>(
     base: u128,
 ) -> Status
     requires { AreWithin engine.old.limits }
-    ensures usage { (result ≡ Status.Usage) ↔ IsNoCommand words.now }
-    ensures source { result ≡ Status.SourceFault → Rose (I.source_faults input.old) (I.source_faults input.new) }
-    ensures sink { result ≡ Status.SinkFault → Rose (O.sink_faults out.old) (O.sink_faults out.new) }
-    ensures store { result ≡ Status.Refused Refusal.Store → Rose (store_faults (held engine.old.store)) (store_faults (held engine.new.store)) }
-    ensures taken { (path : List ℕ) → result ≡ Status.Refused (Refusal.Taken path) → Rose (clashes (held engine.old.store)) (clashes (held engine.new.store)) }
-    ensures show { (at : Option ℕ) → AsksShow words.now at → IfSome (told (held engine.old.store))
-        (λ events. Answers (show events engine.old.limits at now) (O.taken out.old) result (O.taken out.new)) }
-    ensures whole_log { (at : Option ℕ) → AsksShow words.now at → IfSome (told (held engine.old.store))
-        (λ events. ShowsLog events engine.old.limits at now (O.taken out.old) result (O.taken out.new)) }
-    ensures shows_history { (at : Option ℕ) → AsksShow words.now at → IfSome (told (held engine.old.store))
-        (λ events. ShowsHistory events engine.old.limits at now (O.taken out.old) result (O.taken out.new)) }
-    ensures commit { IsCommit words.now → IfSome (told (held engine.old.store)) (λ events. IfSome (I.left input.old) (λ left.
-        CommitAnswers (actions_of engine.old.limits left) (λ actions. attempt events engine.old.limits actions now base) events (O.taken out.old) result (O.taken out.new) (told (held engine.new.store)))) }
-    ensures lawful { KeepsLawful (told (held engine.old.store)) (told (held engine.new.store)) }
-    ensures history { IsCommit words.now → IfSome (I.left input.old) (λ left. IfBoth (told (held engine.old.store)) (told (held engine.new.store))
-        (InputSays (actions_of engine.old.limits left) base result (O.taken out.old) (O.taken out.new))) }
+    ensures usage { (result ≡ Status.Usage) ↔ (asked words.now ≡ None) }
+    ensures ends { MayEnd (asked words.now) result }
+    ensures show { (at : Option ℕ) (choice : Choice) → Asks words.now (commands.Show at choice) → IfTold (seen (held engine.old.store))
+        (λ events. Answers (show events engine.old.limits at choice now) (O.sink_seen out.old).taken result (O.sink_seen out.new).taken) }
+    ensures whole_log { (at : Option ℕ) (choice : Choice) → Asks words.now (commands.Show at choice) → IfTold (seen (held engine.old.store))
+        (λ events. ShowsLog events engine.old.limits at choice now (O.sink_seen out.old).taken result (O.sink_seen out.new).taken) }
+    ensures shows_history { (at : Option ℕ) (choice : Choice) → Asks words.now (commands.Show at choice) → IfTold (seen (held engine.old.store))
+        (λ events. ShowsHistory events engine.old.limits at choice now (O.sink_seen out.old).taken result (O.sink_seen out.new).taken) }
+    ensures commit { (reads : Reads) → Asks words.now (commands.Commit reads) → IfTold (seen (held engine.old.store)) (λ events. IfSome (I.source_seen input.old).left (λ left.
+        CommitAnswers (actions_of engine.old.limits left) (λ actions. attempt events engine.old.limits actions now base) events (O.sink_seen out.old).taken result (O.sink_seen out.new).taken (seen (held engine.new.store)).told)) }
+    ensures transacts { (reads : Reads) → Asks words.now (commands.Commit reads) → IfSome (I.source_seen input.old).left (λ left.
+        InputTransacts (actions_of engine.old.limits left) engine.old.limits now reads base (seen (held engine.old.store)).told result (seen (held engine.new.store)).told) }
+    ensures input_first { TakesInput words.now → IfSome (I.source_seen input.old).left (λ left. InputFirst (actions_of engine.old.limits left) result engine.old.store engine.new.store) }
+    ensures lawful { KeepsLawfulPast (cut_for (asked words.now)) (seen (held engine.old.store)).told (seen (held engine.new.store)).told }
+    ensures history { (reads : Reads) → Asks words.now (commands.Commit reads) → IfSome (I.source_seen input.old).left (λ left. IfBoth (seen (held engine.old.store)).told (seen (held engine.new.store)).told
+        (InputSays (actions_of engine.old.limits left) base result (O.sink_seen out.old).taken (O.sink_seen out.new).taken)) }
+    ensures once { (reads : Reads) → Asks words.now (commands.Commit reads) → IfBoth (seen (held engine.old.store)).told (seen (held engine.new.store)).told (SaysOnce base result) }
 
-    // What never comes of `show`.
-    ensures no_source { (IsCommit words.now → ⊥) → result ≡ Status.SourceFault → ⊥ }
-    ensures no_taken { (IsCommit words.now → ⊥) → (path : List ℕ) → result ≡ Status.Refused (Refusal.Taken path) → ⊥ }
-
-    // What stays as it was.
-    ensures same { (IsCommit words.now → ⊥) → told (held engine.new.store) ≡ told (held engine.old.store) }
-    ensures same_clashes { (IsCommit words.now → ⊥) → clashes (held engine.new.store) ≡ clashes (held engine.old.store) }
-    ensures unread { (IsCommit words.now → ⊥) → input.new ≡ input.old }
-    ensures read { IsCommit words.now → result ≡ Status.Done → IfSome (I.left input.new) (λ left. left ≡ []) }
+    // What it touches, and what stays as it was.
+    ensures reads { OnlyReads words.now → ReadsStore (seen (held engine.old.store)) (seen (held engine.new.store)) result }
+    ensures puts { PutsInStore (seen (held engine.old.store)) (seen (held engine.new.store)) result }
+    ensures takes { TakesInput words.now → TakesFromSource (engine.old.limits.input + 1) (I.source_seen input.old) (I.source_seen input.new) result }
+    ensures unread { LeavesInput words.now → input.new ≡ input.old }
+    ensures writes { WritesToSink (O.sink_seen out.old) (O.sink_seen out.new) result }
+    ensures unasked { result ≡ Status.SourceFault → engine.new.store ≡ engine.old.store }
     ensures limits { engine.new.limits ≡ engine.old.limits }
-    ensures unwritten { IsUnwritten result (O.taken out.old) (O.taken out.new) }
-    ensures store_later { store_faults (held engine.old.store) ≤ store_faults (held engine.new.store) }
-    ensures clashes_later { clashes (held engine.old.store) ≤ clashes (held engine.new.store) }
-    ensures source_later { I.source_faults input.old ≤ I.source_faults input.new }
-    ensures sink_later { O.sink_faults out.old ≤ O.sink_faults out.new }
 {
-    if let Some(at) = show_of(words) {
-        return show_command(alloc, engine, out, at, now);
+    match command_of(words) {
+        None => Status::Usage,
+        Some(Command::Show { at, choice }) => show_command(alloc, engine, out, at, &choice, now),
+        Some(Command::Commit { reads }) => {
+            commit_command(alloc, engine, input, out, reads, now, base)
+        }
     }
-    if let Some(reads) = commit_of(words) {
-        return commit_command(alloc, engine, input, out, reads, now, base);
-    }
-    Status::Usage
 }

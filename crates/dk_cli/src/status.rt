@@ -5,7 +5,7 @@ ghost use Rattle.dk_cli.specs.Status.{code_of};
 use dk_engine::Refusal;
 
 /// How the program ended.
-#[derive(Drop, Debug)]
+#[derive(Drop)]
 pub enum Status {
     /// The sink took the whole output.
     Done,

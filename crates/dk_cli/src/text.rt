@@ -4,7 +4,8 @@ ghost use Rattle.std.specs.FinMap as maps;
 ghost use Rattle.std.specs.Option.{option_to_list};
 ghost use Rattle.dk_model.specs.Written.{text_of};
 ghost use Rattle.dk_cli.specs.Commit.{committed_line};
-ghost use Rattle.dk_cli.specs.Shown.{snapshot_line, head_text, file_actions, named_actions, is_unexpired, live, removal, recorded, configured, shown};
+ghost use Rattle.dk_model.specs.Contents.{adds, configured, heads, is_later, live_file, named_actions, recorded, removal, removals};
+ghost use Rattle.dk_cli.specs.Shown.{snapshot_line, shown};
 
 use dk_actjson::{
     append_add, append_application, append_domain, append_metadata, append_protocol,
@@ -48,7 +49,7 @@ fn append_files(
     out: &mut Vec<u8>,
     files: &TextMap<AddFile>,
 ) -> Result<(), AllocError>
-    ensures { OnOk result (out.new.items ≡ out.old.items ++ text_of (map live (maps.entries files.now))) }
+    ensures { OnOk result (out.new.items ≡ out.old.items ++ text_of (map live_file (maps.entries files.now))) }
 {
     for (_path, file) in files.iter() {
         append_add(alloc, out, file)?;
@@ -64,7 +65,7 @@ fn append_unexpired(
     time: i64,
     cut: i64,
 ) -> Result<(), AllocError>
-    ensures { OnOk result (out.new.items ≡ out.old.items ++ text_of (map removal (filter (is_unexpired cut) ((path.now, time) ∷ [])))) }
+    ensures { OnOk result (out.new.items ≡ out.old.items ++ text_of (map removal (filter (is_later cut) ((path.now, time) ∷ [])))) }
 {
     if cut < time {
         append_tombstone(alloc, out, path, time)
@@ -80,7 +81,7 @@ fn append_tombstones(
     tombstones: &TextMap<i64>,
     cut: i64,
 ) -> Result<(), AllocError>
-    ensures { OnOk result (out.new.items ≡ out.old.items ++ text_of (map removal (filter (is_unexpired cut) (maps.entries tombstones.now)))) }
+    ensures { OnOk result (out.new.items ≡ out.old.items ++ text_of (map removal (filter (is_later cut) (maps.entries tombstones.now)))) }
 {
     for (path, time) in tombstones.iter() {
         append_unexpired(alloc, out, path, *time, cut)?;
@@ -123,7 +124,7 @@ fn append_head(
     version: u64,
     state: &TableState,
 ) -> Result<(), AllocError>
-    ensures { OnOk result (out.new.items ≡ out.old.items ++ head_text version state.now) }
+    ensures { OnOk result (out.new.items ≡ out.old.items ++ (snapshot_line version ++ text_of (heads state.now))) }
 {
     append_snapshot(alloc, out, version)?;
     append_if_protocol(alloc, out, &state.protocol)?;
@@ -138,7 +139,7 @@ fn append_paths(
     state: &TableState,
     cut: i64,
 ) -> Result<(), AllocError>
-    ensures { OnOk result (out.new.items ≡ out.old.items ++ text_of (file_actions state.now cut)) }
+    ensures { OnOk result (out.new.items ≡ out.old.items ++ text_of (adds (maps.entries state.now.files) ++ removals state.now (is_later cut))) }
 {
     append_files(alloc, out, &state.files)?;
     append_tombstones(alloc, out, &state.tombstones, cut)

@@ -2,10 +2,21 @@
 ghost use Rattle.std.specs.Prelude.{◌≡◌, option_copied, string_bytes};
 ghost use Rattle.std.specs.Str.{all_ascii_digits, bytes_eq};
 ghost use Rattle.dk_store.specs.Listing.{behind};
-ghost use Rattle.dk_cli.specs.Words.{commit_of, is_short, reads_asked, reads_named, show_of, value_of, version_asked, version_of, words_of};
+ghost use Rattle.dk_cli.specs.Words.{command_of, commit_of, is_short, reads_asked, reads_named, show_of, value_of, version_asked, version_of, words_of};
 
 use dk_conflicts::Reads;
+use dk_lawful::Choice;
 use dk_paths::MAX_VERSION;
+use dk_snapshot::usual_choice;
+
+/// What the words of the command line ask for.
+#[derive(Drop)]
+pub enum Command {
+    /// `show`: the text of this version, or of the latest one, as it is read under the choice.
+    Show { at: Option<u64>, choice: Choice },
+    /// `commit`: the actions of the input become the next version, by a transaction that has read so much of the table.
+    Commit { reads: Reads },
+}
 
 /// The most digits of a version.
 const MAX_DIGITS: usize = 19;
@@ -78,14 +89,15 @@ fn version_asked(options: &[String]) -> Option<Option<u64>>
     Some(Some(version))
 }
 
-/// The version that the words ask `show` for, where they do: a given one, or the latest. Takes no memory.
-pub(crate) fn show_of(words: &[String]) -> Option<Option<u64>>
-    ensures { result ≡ show_of (words_of words.now) }
+/// `show` with these options. Takes no memory.
+fn show_of(options: &[String]) -> Option<Command>
+    ensures { result ≡ show_of (words_of options.now) }
 {
-    match words {
-        [word, options @ ..] if is_word(word, "show") => version_asked(options),
-        _ => None,
-    }
+    let at = version_asked(options)?;
+    Some(Command::Show {
+        at,
+        choice: usual_choice(),
+    })
 }
 
 /// What a transaction has read, by the word for it. Takes no memory.
@@ -109,12 +121,21 @@ fn reads_asked(options: &[String]) -> Option<Reads>
     reads_named(value_of("--reads", "--reads=", options)?)
 }
 
-/// What the transaction of `commit` has read, where the words are those of `commit`. Takes no memory.
-pub(crate) fn commit_of(words: &[String]) -> Option<Reads>
-    ensures { result ≡ commit_of (words_of words.now) }
+/// `commit` with these options. Takes no memory.
+fn commit_of(options: &[String]) -> Option<Command>
+    ensures { result ≡ commit_of (words_of options.now) }
+{
+    let reads = reads_asked(options)?;
+    Some(Command::Commit { reads })
+}
+
+/// The command that the words ask for, where they are those of one. Takes no memory.
+pub(crate) fn command_of(words: &[String]) -> Option<Command>
+    ensures { result ≡ command_of (words_of words.now) }
 {
     match words {
-        [word, options @ ..] if is_word(word, "commit") => reads_asked(options),
+        [word, options @ ..] if is_word(word, "show") => show_of(options),
+        [word, options @ ..] if is_word(word, "commit") => commit_of(options),
         _ => None,
     }
 }

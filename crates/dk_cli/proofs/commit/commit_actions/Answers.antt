@@ -3,6 +3,7 @@ use Rattle.std.proofs.lemmas.Int.{to_z-of_z}
 use mir.Syntax.{w64}
 use Rattle.dk_txn.specs.Attempt.{own_commit}
 use Rattle.dk_cli.proofs.Committing.{refused_ends, refused_says}
+use Rattle.dk_cli.proofs.Once.{done_once, refused_once}
 use Rattle.dk_cli.proofs.commit.commit_actions.Goals as goal
 
 pub returns-in-Err-clause-answer : goal.returns-in-Err-clause-answer
@@ -11,3 +12,9 @@ returns-in-Err-clause-answer g c =
 
 pub returns-in-Err-clause-history : goal.returns-in-Err-clause-history
 returns-in-Err-clause-history g c = refused_says _ _ (own_commit c.args.base c.args.actions) _ _ c.in-Err.refusal c.in-Err.ensures.history
+
+pub returns-in-Err-clause-once : goal.returns-in-Err-clause-once
+returns-in-Err-clause-once g c = refused_once c.args.base (own_commit c.args.base c.args.actions) _ _ c.in-Err.refusal c.in-Err.ensures.history
+
+pub returns-in-Ok-clause-once : goal.returns-in-Ok-clause-once
+returns-in-Ok-clause-once g c = done_once c.args.base c.args.actions c.in-Ok.committed _ _ _ c.in-Ok.ensures.history

@@ -8,8 +8,8 @@ use Rattle.dk_cli.proofs.input.read_input.Given as goal
 abbrev pub invariant-reading : goal.invariant-reading
 invariant-reading g l = record {
   small : vec_len l.bytes ≤ l.limits.input;
-  left : g.I.Source.left l.initial.input ≡ before l.bytes.items (g.I.Source.left l.input);
-  later : g.I.Source.source_faults l.initial.input ≤ g.I.Source.source_faults l.input;
+  left : (g.I.Source.source_seen l.initial.input).left ≡ before l.bytes.items (g.I.Source.source_seen l.input).left;
+  later : (g.I.Source.source_seen l.initial.input).faults ≤ (g.I.Source.source_seen l.input).faults;
   seen : HasSeen l.scan l.bytes.items;
   within : IsWithin l.scan;
   none : first_passed l.limits l.bytes.items ≡ None;

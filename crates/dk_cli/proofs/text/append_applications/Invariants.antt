@@ -1,7 +1,7 @@
 use Rattle.std.proofs.Common.{◌≡◌, ◌++◌, map}
 use Rattle.std.specs.FinMap as maps
 use Rattle.dk_model.specs.Written.{text_of}
-use Rattle.dk_cli.specs.Shown.{recorded}
+use Rattle.dk_model.specs.Contents.{recorded}
 use Rattle.dk_cli.proofs.text.append_applications.Given as goal
 
 -- what is written, and the lines that are left, is the whole

@@ -2,10 +2,10 @@ use Rattle.std.proofs.Common.{◌≡◌, ◌++◌, map}
 use Rattle.std.specs.Prelude.{filter}
 use Rattle.std.specs.FinMap as maps
 use Rattle.dk_model.specs.Written.{text_of}
-use Rattle.dk_cli.specs.Shown.{is_unexpired, removal}
+use Rattle.dk_model.specs.Contents.{is_later, removal}
 use Rattle.dk_cli.proofs.text.append_tombstones.Given as goal
 
 -- what is written, and the lines that are left, is the whole
 abbrev pub invariant-loop-path : goal.invariant-loop-path
 invariant-loop-path l =
-    l.out.items ++ text_of (map removal (filter (is_unexpired l.cut) l.path-iterator)) ≡ l.fn.out.items ++ text_of (map removal (filter (is_unexpired l.cut) (maps.entries l.tombstones)))
+    l.out.items ++ text_of (map removal (filter (is_later l.cut) l.path-iterator)) ≡ l.fn.out.items ++ text_of (map removal (filter (is_later l.cut) (maps.entries l.tombstones)))
