@@ -1,71 +1,77 @@
 #!/usr/bin/env bash
-# What the program itself adds to the proved top call: exit statuses, the one line on standard error and nothing on
-# standard output, for real folders that are absent, empty, unreadable or damaged.
+# What the program adds to the proved top call, where the table checks/cases.txt can't show it: folders that aren't there,
+# entries that are no files, streams that fail, and sizes over the limits. Each has its exit status, its one line on
+# standard error and nothing on standard output. That the clock or the random source fails isn't tried.
 . "$(dirname "${BASH_SOURCE[0]}")/harness.bash"
 tried=0
 
-# expect NAME STATUS LINE WORDS..: runs the program on the words
-expect() {
-    name=$1 wanted=$2 line=$3
-    shift 3
-    "$program" "$@" >"$work/out" 2>"$work/err" </dev/null
-    got=$?
+# compare NAME STATUS LINE GOT: what the last run left in out and err, and the status that it ended with
+compare() {
     tried=$((tried + 1))
-    if [ "$got" -ne "$wanted" ] || [ "$(cat "$work/err")" != "$line" ] || [ -s "$work/out" ]; then
-        echo "$name: status $got, not $wanted; standard error '$(cat "$work/err")'"
-        failed=$((failed + 1))
+    if [ "$4" -ne "$2" ] || [ "$(cat "$work/err")" != "$3" ] || [ -s "$work/out" ]; then
+        fail "$1: status $4, not $2; standard error '$(cat "$work/err")'"
     fi
 }
 
+# expect NAME STATUS LINE WORDS..: runs the program on the words, over what is standard input here
+expect() {
+    name=$1 wanted=$2 line=$3
+    shift 3
+    "$program" "$@" >"$work/out" 2>"$work/err"
+    compare "$name" "$wanted" "$line" $?
+}
+
 first=_delta_log/00000000000000000000.json
-mkdir -p "$work/empty" "$work/gap/_delta_log" "$work/bad/_delta_log" "$work/other/_delta_log" "$work/nothing/_delta_log"
-touch "$work/file"
 protocol='{"protocol":{"minReaderVersion":1,"minWriterVersion":2}}'
 metadata='{"metaData":{"id":"t","schemaString":"{}"}}'
-printf '%s\n%s\n' "$protocol" "$metadata" >"$work/gap/$first"
-cp "$work/gap/$first" "$work/gap/_delta_log/00000000000000000002.json"
-printf '%s\n\n%s\n{"add":\n' "$protocol" "$metadata" >"$work/bad/$first"
-printf '%s\n' "$protocol" >"$work/nothing/$first"
-printf '%s\n%s\n' "$protocol" "$metadata" >"$work/other/_delta_log/12.json"
+# the folder of a table of one commit, with more of its lines
+table() {
+    mkdir -p "$work/$1/_delta_log"
+    printf '%s\n' "$protocol" "$metadata" "${@:2}" >"$work/$1/$first"
+}
+exec </dev/null
 
+# ---- words that aren't those of a command, beside the table
+mkdir "$work/empty"
 expect 'no folder' 2 'deltak: {"usage":{}}'
-expect 'no command' 2 'deltak: {"usage":{}}' "$work/empty"
-expect 'an unknown command' 2 'deltak: {"usage":{}}' "$work/empty" shew
-expect 'a word too many' 2 'deltak: {"usage":{}}' "$work/empty" show all
-expect 'a folder without a log' 4 "deltak: {\"missing\":{\"path\":\"$first\"}}" "$work/empty" show
+expect 'a word that is no text' 2 'deltak: {"usage":{}}' "$work/empty" $'\xff'
+
+# ---- folders and entries
+touch "$work/file"
 expect 'a folder that is absent' 3 'deltak: {"store":{}}' "$work/absent" show
+expect 'a commit to a folder that is absent' 3 'deltak: {"store":{}}' "$work/absent" commit
 expect 'a file in place of the folder' 3 'deltak: {"store":{}}' "$work/file" show
-expect 'a gap between commits' 4 'deltak: {"missing":{"path":"_delta_log/00000000000000000001.json"}}' "$work/gap" show
-expect 'a line that is cut short' 7 "deltak: {\"damaged\":{\"path\":\"$first\",\"place\":4}}" "$work/bad" show
-expect 'no metadata' 7 "deltak: {\"damaged\":{\"path\":\"$first\",\"place\":0}}" "$work/nothing" show
-expect 'a short name is no commit' 4 "deltak: {\"missing\":{\"path\":\"$first\"}}" "$work/other" show
-expect 'a version above the latest' 13 'deltak: {"noVersion":{"latest":2}}' "$work/gap" show --at 3
-expect 'a version of twenty digits' 2 'deltak: {"usage":{}}' "$work/gap" show --at 00000000000000000000
-expect 'an option of another command' 2 'deltak: {"usage":{}}' "$work/gap" show --reads=table
-expect 'a version that is missing' 2 'deltak: {"usage":{}}' "$work/gap" show --at
-mkdir -p "$work/unknown/_delta_log" "$work/vector/_delta_log" "$work/months/_delta_log"
-printf '%s\n%s\n' '{"protocol":{"minReaderVersion":3,"minWriterVersion":7,"readerFeatures":["unknownThing"],"writerFeatures":["unknownThing"]}}' "$metadata" >"$work/unknown/$first"
-mkdir -p "$work/four/_delta_log" "$work/five/_delta_log"
-printf '%s\n%s\n' '{"protocol":{"minReaderVersion":4,"minWriterVersion":7}}' "$metadata" >"$work/four/$first"
-printf '%s\n%s\n' '{"protocol":{"minReaderVersion":2,"minWriterVersion":5}}' "$metadata" >"$work/five/$first"
-printf '%s\n%s\n%s\n' "$protocol" "$metadata" '{"add":{"path":"a","size":1,"modificationTime":5,"deletionVector":{}}}' >"$work/vector/$first"
-printf '%s\n%s\n' "$protocol" '{"metaData":{"id":"t","schemaString":"{}","configuration":{"delta.deletedFileRetentionDuration":"interval 2 months"}}}' >"$work/months/$first"
-expect 'a feature that nobody knows' 5 'deltak: {"unsupported":{"name":"unknownThing"}}' "$work/unknown" show
-expect 'reader version 4' 5 'deltak: {"unsupported":{"name":"minReaderVersion 4"}}' "$work/four" show
-expect 'a feature that is not written' 5 'deltak: {"unsupported":{"name":"checkConstraints"}}' "$work/five" commit
-expect 'a deletion vector' 5 'deltak: {"unsupported":{"name":"deletionVectors"}}' "$work/vector" show
-expect 'a retention of months' 5 'deltak: {"unsupported":{"name":"delta.deletedFileRetentionDuration"}}' "$work/months" show
-mkdir "$work/gap/_delta_log/00000000000000000001.json"
-expect 'a folder is no commit' 4 'deltak: {"missing":{"path":"_delta_log/00000000000000000001.json"}}' "$work/gap" show
+table folder
+mkdir "$work/folder/_delta_log/00000000000000000001.json"
+cp "$work/folder/$first" "$work/folder/_delta_log/00000000000000000002.json"
+expect 'a folder is no commit' 4 'deltak: {"missing":{"path":"_delta_log/00000000000000000001.json"}}' "$work/folder" show
+table link
+ln -s nowhere "$work/link/_delta_log/00000000000000000001.json"
+expect 'a commit that is a link to nowhere' 3 'deltak: {"store":{}}' "$work/link" show
+table locked
+exec 9<"$work/locked"
+flock 9
+expect 'a folder that another program holds' 3 'deltak: {"store":{}}' "$work/locked" show
+exec 9<&-
 
-# a sink that takes nothing more
-"$program" examples/orders show >/dev/full 2>"$work/err"
+# ---- streams
+table streams
+expect 'an input that is a folder' 11 'deltak: {"source":{}}' "$work/streams" commit <"$work/empty"
+"$program" "$work/streams" show >/dev/full 2>"$work/err"
 got=$?
-tried=$((tried + 1))
-if [ "$got" -ne 10 ] || [ "$(cat "$work/err")" != 'deltak: {"sink":{}}' ]; then
-    echo "a full device: status $got; standard error '$(cat "$work/err")'"
-    failed=$((failed + 1))
-fi
+: >"$work/out"
+compare 'an output that takes nothing' 10 'deltak: {"sink":{}}' "$got"
 
-echo "$((tried - failed)) passed, $failed failed"
+# ---- sizes
+expect 'a line too many' 8 'deltak: {"limit":{"value":1000001,"which":"InputLines"}}' "$work/streams" commit < <(yes '' | head -n 1000001)
+expect 'a line that is too long' 8 'deltak: {"limit":{"value":16777217,"which":"InputLine"}}' "$work/streams" commit \
+    < <(head -c 16777217 /dev/zero | tr '\0' ' ')
+expect 'an input that is too long' 8 'deltak: {"limit":{"value":268435457,"which":"Input"}}' "$work/streams" commit \
+    < <(yes "$(printf '%4095s' '')" | head -c 268435457)
+table large
+truncate -s 268435457 "$work/large/_delta_log/00000000000000000001.json"
+expect 'an object that is too large' 8 'deltak: {"limit":{"value":268435457,"which":"Object"}}' "$work/large" show
+expect 'a commit after an object that is too large' 8 'deltak: {"limit":{"value":268435457,"which":"Object"}}' "$work/large" commit
+
+echo "$((tried - failed)) of $tried refusals as wanted"
 [ "$failed" -eq 0 ]
