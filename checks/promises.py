@@ -16,7 +16,7 @@ NAME = re.compile(r"^[A-Za-z_][\w-]*$")
 PATH = re.compile(r"^(?:[A-Za-z_][\w-]*(?:::|\.))+[A-Za-z_][\w-]*$")
 BRACKETS = re.compile(r"\((?:clauses? )?((?:`[^`]+`(?:, | and )?)+)\)")
 # words of the command line and of tools, and names of files that other tables explain
-OTHERS = {"rt", "None", "Some", "Ok", "Err", "From", "show", "commit"}
+OTHERS = {"rt", "None", "Some", "Ok", "Err", "From", "Display", "Error", "show", "commit"}
 # a feature or a field of the formats
 FORMAT_WORD = re.compile(r"^[a-z]+[A-Z]\w*$")
 
