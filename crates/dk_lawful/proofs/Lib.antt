@@ -14,6 +14,7 @@ pub mod Heads
 pub mod IdsOnce
 pub mod Joined
 pub mod Joining
+pub mod KeptVersions
 pub mod Lists
 pub mod ManagedExample
 pub mod Management

@@ -2,7 +2,7 @@
 
 ghost use Rattle.std.specs.Prelude.{[], codes, pos, true, ◌∷◌};
 ghost use Rattle.dk_lawful.specs.CheckpointExample.{ClearedFloor, checkpointing, clearing, lacking_text, naming, naming_text, whole_text};
-ghost use Rattle.dk_lawful.specs.CheckpointLaws.{CheckpointMeansOne, PartsStand, ReadPartsStand, ReadTopsStand, TopsStand};
+ghost use Rattle.dk_lawful.specs.CheckpointLaws.{CheckpointMeansOne, CheckpointsStand, PartsStand, ReadCheckpointsStand};
 ghost use Rattle.dk_lawful.specs.ContentLaws.{ClassicMayBeMade, ClassicStands, PartHasShare, PartMayBeMade, ShareComposes, SidecarsHaveFiles, StandingComposes, V2MayBeMade, V2SaysVersion, V2Stands};
 ghost use Rattle.dk_lawful.specs.CutExample.{CutTells};
 ghost use Rattle.dk_lawful.specs.Example.{IsForbidden, example, first_text, managed_text, ratifying, staged_name_1, staging};
@@ -19,11 +19,10 @@ ghost use Rattle.dk_store.specs.Told.{Deleted, Made, Over, Ratified};
 /// moments (Delta Lake's PROTOCOL.md, "Checkpoints"). Where a Parquet file means at most one list of rows, which is a
 /// premise here, a checkpoint means one list of actions, so the same holds of whatever is read of it.
 pub fn checkpoints_stand()
+    ensures stand { CheckpointsStand }
     ensures parts { PartsStand }
-    ensures tops { TopsStand }
     ensures one { MeansOneList → CheckpointMeansOne }
-    ensures read_parts { MeansOneList → ReadPartsStand }
-    ensures read_tops { MeansOneList → ReadTopsStand }
+    ensures read { MeansOneList → ReadCheckpointsStand }
 {}
 
 /// What is written of a checkpoint of a well kept state leads back to it, but for tombstones up to the cut: as one object,
