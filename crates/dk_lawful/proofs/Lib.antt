@@ -1,4 +1,5 @@
 pub mod ActorExample
+pub mod BacklogExample
 pub mod BrokenRules
 pub mod Calls
 pub mod CheckpointExample

@@ -77,6 +77,14 @@ staged_once = Made (place_path (Staged 1 7)) adding_text (pos 1) ∷ founded
 abbrev pub staged_twice : List Told
 staged_twice = Made (place_path (Staged 1 8)) late_text (pos 2) ∷ staged_once
 
+-- one of the version after that too
+abbrev pub staged_ahead : List Told
+staged_ahead = Made (place_path (Staged 2 5)) adding_text (pos 3) ∷ staged_twice
+
+-- one whose text means nothing
+abbrev pub staged_unreadable : List Told
+staged_unreadable = Made (place_path (Staged 1 6)) (codes "{") (pos 1) ∷ founded
+
 abbrev pub catalogued : List Told
 catalogued = Ratified 1 (staged_name 1 7) ∷ staged_twice
 
