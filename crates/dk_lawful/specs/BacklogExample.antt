@@ -1,5 +1,5 @@
 -- The managed table, of which two versions are ratified before either is published.
-use Rattle.std.specs.Prelude.{◌≡◌, ℕ, ℤ, pos, true, List, [], ◌∷◌, ◌++◌, codes}
+use Rattle.std.specs.Prelude.{ℕ, ℤ, pos, true, List, [], ◌∷◌, ◌++◌, codes}
 use Rattle.dk_model.specs.declared.action.Action.{Action}
 use Rattle.dk_store.specs.Told.{Told, Made, Deleted, Ratified, Forgotten}
 use Rattle.dk_paths.specs.Names.{commit_path}

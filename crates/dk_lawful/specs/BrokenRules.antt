@@ -63,3 +63,45 @@ removing_actions = action.Remove (record { path = codes "a"; deletion_timestamp 
 
 abbrev pub appended : List Told
 appended = Made (commit_path 0) appending_text (pos 0) ∷ []
+
+-- a file with a deletion vector
+unfoldable pub vector_text : List ℕ
+vector_text = codes "{\"add\":{\"deletionVector\":{\"storageType\":\"u\"},\"modificationTime\":5,\"path\":\"b\",\"size\":1}}\n"
+
+abbrev pub vector_actions : List Action
+vector_actions =
+    action.Add (record {
+      path = codes "b";
+      partition_values = [];
+      size = pos 1;
+      modification_time = pos 5;
+      data_change = true;
+      stats = None;
+      tags = None;
+      base_row_id = None;
+      default_row_commit_version = None;
+      clustering_provider = None;
+      vector = true;
+    })
+    ∷ []
+
+-- a table begins that a catalogue manages, and whose commits don't say their times
+unfoldable pub untimed_text : List ℕ
+untimed_text =
+    codes "{\"protocol\":{\"minReaderVersion\":3,\"minWriterVersion\":7,\"readerFeatures\":[\"catalogManaged\"],\"writerFeatures\":[\"catalogManaged\"]}}\n{\"metaData\":{\"id\":\"t\",\"schemaString\":\"s\"}}\n"
+
+abbrev pub untimed_actions : List Action
+untimed_actions =
+    action.Protocol (record { min_reader = 3; min_writer = 7; reader_features = Some (codes "catalogManaged" ∷ []); writer_features = Some (codes "catalogManaged" ∷ []) })
+    ∷ action.Metadata (record {
+      id = codes "t";
+      name = None;
+      description = None;
+      provider = codes "parquet";
+      options = [];
+      schema_string = codes "s";
+      partition_columns = [];
+      created_time = None;
+      configuration = [];
+    })
+    ∷ []

@@ -2,7 +2,7 @@
 
 ghost use Rattle.std.specs.Prelude.{[], codes, pos, true, ◌++◌, ◌∷◌, ◌≡◌, ℤ};
 ghost use Rattle.dk_lawful.specs.BacklogExample.{BacklogIsLawful, both_ratified, covered, next_text};
-ghost use Rattle.dk_lawful.specs.BrokenRules.{appended, applying_text, informing_text, removing_text, settling_text, sidecar_text};
+ghost use Rattle.dk_lawful.specs.BrokenRules.{appended, applying_text, informing_text, removing_text, settling_text, sidecar_text, untimed_text, vector_text};
 ghost use Rattle.dk_lawful.specs.Calls.{DeleteKeepsLawful, ForgetKeepsLawful, KeepsLawfulOnwards, NoCutIsSame, PutNewKeepsLawful, PutOverKeepsLawful, RatifyKeepsLawful, SameIsPastEach};
 ghost use Rattle.dk_lawful.specs.Example.{ExampleHistory, ExampleIsLawful, IsForbidden, example, first_text, listing_text, managed_actions, managed_text, ratifying, second_actions, second_text, shrinking_text, staging, upgrading_text};
 ghost use Rattle.dk_lawful.specs.History.{by_catalogue, by_file, history};
@@ -182,8 +182,9 @@ pub fn forbidden_events()
     ensures over { IsForbidden example (Over (commit_path 1) second_text (pos 2)) }
     ensures deleted { IsForbidden example (Deleted (commit_path 0)) }
 
-    // a compacted file that does something else than its commits, or has one that isn't published
+    // a compacted file that does something else than its commits, means nothing, or has one that isn't published
     ensures wrong_sum { IsForbidden example (Made (place_path (Compacted 0 1)) second_text (pos 2)) }
+    ensures unreadable_sum { IsForbidden example (Made (place_path (Compacted 0 1)) (codes "{") (pos 2)) }
     ensures sum_beyond { IsForbidden example (Made (place_path (Compacted 1 2)) second_text (pos 2)) }
 
     // a staged commit of a version that came, a ratification of a table that isn't managed, and that more is forgotten than is published
@@ -208,6 +209,10 @@ pub fn broken_rules()
 
     // a domain without its feature
     ensures domain_early { IsForbidden example (Made (commit_path 2) settling_text (pos 2)) }
+
+    // a managed table whose commits don't say their times, and a file with a deletion vector
+    ensures untimed { IsForbidden [] (Made (commit_path 0) untimed_text (pos 0)) }
+    ensures vector_added { IsForbidden example (Made (commit_path 2) vector_text (pos 2)) }
 {}
 
 /// A lawful log of a table that a catalogue manages: two commits of one version are staged, one is ratified and published, the
