@@ -14,7 +14,7 @@ use Rattle.dk_paths.proofs.PlaceLaws.{place_of_path}
 use Rattle.dk_lawful.specs.Present.{Holds, Present, AtMostPublished}
 use Rattle.dk_lawful.specs.History.{RatifiedCommit, after_made, history, commits_of, table_at}
 use Rattle.dk_lawful.specs.Agree.{Agree}
-use Rattle.dk_lawful.specs.Checkpoints.{sidecar_of_path, with_name, sidecars_of, Top, HasTop, version_in, Among}
+use Rattle.dk_lawful.specs.Checkpoints.{sidecar_of_path, with_name, sidecars_of, Top, HasTop, marked_version, Among}
 use Rattle.dk_lawful.specs.Floor.{IsBelow}
 use Rattle.dk_lawful.specs.Permits.{MayMake, MayDelete, MakesTop}
 use Rattle.dk_lawful.specs.Lawful.{Lawful}
@@ -87,7 +87,7 @@ names_these bytes actions names top means named has =
 
 -- a checkpoint of this form that names no sidecar
 pub makes_json : (events : List Told) (version id : ℕ) (bytes : List ℕ) (actions : List Action) (horizon : ℤ) → AtMostPublished events version → commit_of bytes ≡ Some actions
-    → filter_map version_in actions ≡ version ∷ [] → sidecars_of actions ≡ Some [] → steps empty_state (actions ++ []) ≡ table_at events version
+    → filter_map marked_version actions ≡ version ∷ [] → sidecars_of actions ≡ Some [] → steps empty_state (actions ++ []) ≡ table_at events version
     → MakesTop events (V2 version id true) version bytes horizon
 makes_json events version id bytes actions horizon published means versions alone leads = record {
   published = published;

@@ -13,7 +13,7 @@ use Rattle.dk_paths.specs.Staged.{staged_name}
 use Rattle.dk_paths.proofs.PlaceLaws.{place_of_path}
 use Rattle.dk_lawful.specs.Present.{AtMostPublished, HasAbove, staged_bytes}
 use Rattle.dk_lawful.specs.History.{history, next_version}
-use Rattle.dk_lawful.specs.Checkpoints.{InParquet, sidecars_of, version_in, Among, SidesMean}
+use Rattle.dk_lawful.specs.Checkpoints.{InParquet, sidecars_of, marked_version, Among, SidesMean}
 use Rattle.dk_lawful.specs.Permits.{Permits, MayMake, MayDelete, MayOver, MakesTop, MakesPart, Backfills}
 use Rattle.dk_lawful.specs.Example.{first_text, first_actions, second_text, second_actions, managed_text, example, staged_name_1, staging, ratifying, IsForbidden}
 use Rattle.dk_lawful.specs.MoreExamples.{side_name}
@@ -37,10 +37,10 @@ checkpoint_beyond horizon may = unpublished 2 (omega arith) (top_at 2 7 whole_te
 
 -- the versions that the object says
 says : (version : ℕ) (bytes : List ℕ) (actions : List Action) (said : List ℕ) (horizon : ℤ) → IsPlace (V2 version 7 true) → commit_of bytes ≡ Some actions
-    → filter_map version_in actions ≡ said → Permits example (Made (place_path (V2 version 7 true)) bytes (pos 2)) horizon → said ≡ version ∷ []
+    → filter_map marked_version actions ≡ said → Permits example (Made (place_path (V2 version 7 true)) bytes (pos 2)) horizon → said ≡ version ∷ []
 says version bytes actions said horizon is means has may =
     let makes = top_at version 7 bytes horizon is may in
-    sym has ∙ ap (filter_map version_in) (sym (has_these bytes actions makes.top means makes.means.0)) ∙ makes.means.1
+    sym has ∙ ap (filter_map marked_version) (sym (has_these bytes actions makes.top means makes.means.0)) ∙ makes.means.1
 
 pub other_version : IsForbidden example (Made (place_path (V2 0 7 true)) older_marked_text (pos 2))
 other_version horizon may = differ (says 0 older_marked_text older_marked_actions (1 ∷ []) horizon ((omega arith), (omega arith)) older_marked_means refl may)

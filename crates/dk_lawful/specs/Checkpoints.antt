@@ -69,13 +69,13 @@ pub record HasTop (json : Bool) (bytes : List ℕ) (top : Top) : Type 0 where
   pub named : sidecars_of top.actions ≡ Some top.sidecars
 
 -- the versions that are written in a checkpoint of the form V2
-abbrev pub version_in : Action → Option ℕ
-version_in (action.CheckpointMeta meta) = Some meta.version
-version_in _ = None
+abbrev pub marked_version : Action → Option ℕ
+marked_version (action.CheckpointMeta meta) = Some meta.version
+marked_version _ = None
 
 -- an object with a name of the form V2 has exactly one, that of its name
 abbrev pub HasV2Top : ℕ → Bool → List ℕ → Top → Type 0
-HasV2Top version json bytes top = HasTop json bytes top × (filter_map version_in top.actions ≡ version ∷ [])
+HasV2Top version json bytes top = HasTop json bytes top × (filter_map marked_version top.actions ≡ version ∷ [])
 
 -- an object by its place
 abbrev pub TopMeans : Place → List ℕ → Top → Type 0

@@ -28,13 +28,13 @@ abbrev pub IsStepPath : List Told → Step → Type 0
 IsStepPath events (step.Commit version path) = IsCommitPath events version path
 IsStepPath events (step.Compacted first last path) = place_of path ≡ Compacted first last
 
-abbrev pub path_of : Step → List ℕ
-path_of (step.Commit version path) = path
-path_of (step.Compacted first last path) = path
+abbrev pub path_of_step : Step → List ℕ
+path_of_step (step.Commit version path) = path
+path_of_step (step.Compacted first last path) = path
 
 -- its object stands, and has these bytes
 abbrev pub StepHolds : List Told → Step → List ℕ → Type 0
-StepHolds events s bytes = IsStepPath events s × (content events (path_of s) ≡ Some bytes)
+StepHolds events s bytes = IsStepPath events s × (content events (path_of_step s) ≡ Some bytes)
 
 -- and means these actions
 abbrev pub StepMeans : List Told → Step → List Action → Type 0
