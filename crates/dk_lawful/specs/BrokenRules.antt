@@ -4,6 +4,7 @@ use Rattle.dk_model.specs.declared.action.Action.{Action}
 use Rattle.dk_model.specs.declared.action.Action.TheVariants as action
 use Rattle.dk_store.specs.Told.{Told, Made}
 use Rattle.dk_paths.specs.Names.{commit_path}
+use Rattle.dk_lawful.specs.Example.{an_add, a_table}
 
 -- what its writer says of it
 unfoldable pub informing_text : List ℕ
@@ -41,17 +42,7 @@ appending_text =
 abbrev pub appending_actions : List Action
 appending_actions =
     action.Protocol (record { min_reader = 1; min_writer = 2; reader_features = None; writer_features = None })
-    ∷ action.Metadata (record {
-      id = codes "t";
-      name = None;
-      description = None;
-      provider = codes "parquet";
-      options = [];
-      schema_string = codes "{}";
-      partition_columns = [];
-      created_time = None;
-      configuration = (codes "delta.appendOnly", Some (codes "true")) ∷ [];
-    })
+    ∷ a_table (codes "{}") ((codes "delta.appendOnly", Some (codes "true")) ∷ [])
     ∷ []
 
 -- a file goes with its rows
@@ -69,21 +60,7 @@ unfoldable pub vector_text : List ℕ
 vector_text = codes "{\"add\":{\"deletionVector\":{\"storageType\":\"u\"},\"modificationTime\":5,\"path\":\"b\",\"size\":1}}\n"
 
 abbrev pub vector_actions : List Action
-vector_actions =
-    action.Add (record {
-      path = codes "b";
-      partition_values = [];
-      size = pos 1;
-      modification_time = pos 5;
-      data_change = true;
-      stats = None;
-      tags = None;
-      base_row_id = None;
-      default_row_commit_version = None;
-      clustering_provider = None;
-      vector = true;
-    })
-    ∷ []
+vector_actions = an_add (codes "b") (pos 1) true ∷ []
 
 -- a table begins that a catalogue manages, and whose commits don't say their times
 unfoldable pub untimed_text : List ℕ
@@ -93,15 +70,5 @@ untimed_text =
 abbrev pub untimed_actions : List Action
 untimed_actions =
     action.Protocol (record { min_reader = 3; min_writer = 7; reader_features = Some (codes "catalogManaged" ∷ []); writer_features = Some (codes "catalogManaged" ∷ []) })
-    ∷ action.Metadata (record {
-      id = codes "t";
-      name = None;
-      description = None;
-      provider = codes "parquet";
-      options = [];
-      schema_string = codes "s";
-      partition_columns = [];
-      created_time = None;
-      configuration = [];
-    })
+    ∷ a_table (codes "s") []
     ∷ []
