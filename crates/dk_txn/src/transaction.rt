@@ -253,7 +253,7 @@ impl Transaction {
             → IfBoth (seen store.old).told (seen store.new).told (λ events later. ConcludesHistory (outcome events limits self.old now) (own_commit self.old.id self.old.actions.items) result events later) }
 
         // In the words of those who are at work on a table.
-        ensures own { IfBoth (seen store.old).told (seen store.new).told (SaysOwn self.old self.new result) }
+        ensures own { IfBoth (seen store.old).told (seen store.new).told (SaysOwn self.old self.new now result) }
     {
         if let Some(version) = self.committed {
             return Ok(Committed { version });
