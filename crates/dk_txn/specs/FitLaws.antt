@@ -1,6 +1,7 @@
 -- What a commit comes to of a transaction that stands to a lawful log as it should.
-use Rattle.std.specs.Prelude.{◌≡◌, false, ℤ, List, None, Ok}
+use Rattle.std.specs.Prelude.{◌≡◌, ◌<◌, ◌^◌, false, ℕ, ℤ, List, None, Ok}
 use Rattle.dk_store.specs.Told.{Told}
+use Rattle.dk_model.specs.declared.action.Action.{Action}
 use Rattle.dk_conflicts.specs.Conflicts.{conflict_from}
 use Rattle.dk_engine.specs.declared.limits.Limits.{Limits}
 use Rattle.dk_lawful.specs.History.{commits_of, history, next_version, table}
@@ -9,8 +10,9 @@ use Rattle.dk_lawful.specs.Lawful.{Lawful}
 use Rattle.dk_lawful.specs.Managed.{is_managed}
 use Rattle.dk_paths.specs.Numbers.{id_text}
 use Rattle.dk_lawful.specs.Rules.{IsValidNext}
+use Rattle.dk_lawful.specs.Transacted.{transacted}
 use Rattle.dk_txn.specs.declared.transaction.Transaction.{Transaction}
-use Rattle.dk_txn.specs.Attempt.{Writing, own_commit}
+use Rattle.dk_txn.specs.Attempt.{Writing, attempt, own_commit}
 use Rattle.dk_txn.specs.Transactions.{ToWrite, outcome, Comes}
 use Rattle.dk_txn.specs.TransactionHistory.{IsFit, later_commits, own_of}
 
@@ -31,3 +33,8 @@ FitIsNext = (events : List Told) (horizon : ℤ) (limits : Limits) (t : Transact
 -- and so it may come next
 abbrev pub FitComes : Type 0
 FitComes = (events : List Told) (horizon : ℤ) (limits : Limits) (t : Transaction) (now : ℤ) → Lawful events horizon → IsFit events horizon t → Comes (outcome events limits t now) (own_of t events now) events
+
+-- what is to be written over a lawful log by one that begins at its latest version is what the law has it commit at that moment
+abbrev pub AttemptsAreTransacted : Type 0
+AttemptsAreTransacted = (events : List Told) (horizon : ℤ) (limits : Limits) (actions : List Action) (now : ℤ) (id : ℕ) (writing : Writing) → Lawful events horizon → writing.0 < 2 ^ 63
+    → attempt events limits actions now id ≡ Ok writing → transacted (commits_of (history events)) now (id_text id) actions ≡ own_commit id actions
