@@ -13,14 +13,14 @@ use Rattle.dk_grammar.specs.PageHeaders.{Part, number, inner, part_meaning, Spel
 use Rattle.dk_grammar.proofs.StructSpellings.{headers}
 use Rattle.dk_pqmodel.specs.Shape as shape
 use Rattle.dk_pqmodel.specs.Datum as cell
-use Rattle.dk_pqmodel.specs.Datum.{Value, Entry, Column, null, group, atom, Cells}
+use Rattle.dk_pqmodel.specs.Datum.{Value, Triple, Column, null, group, atom, Cells}
 use Rattle.dk_pqmodel.specs.RowView.{cells_of_list}
 use Rattle.dk_pqmodel.specs.FileSchema.{FileNodes, file_node, no_nodes, one_node}
 use Rattle.dk_pqmodel.specs.Footer.{Chunk, RowGroup, Footer}
 use Rattle.dk_pqmodel.specs.FooterBytes.{SpellsFooter, magic}
 use Rattle.dk_pqmodel.specs.FilePages.{ColumnAt, physical_type, IsPage, IsDataV1, InPlain, IsFull, AreFull}
 use Rattle.dk_pqmodel.specs.FileMeans.{HasTriples, HasColumns, columns_of, FileMeans}
-use Rattle.dk_pqmodel.specs.Laid.{Path, laid}
+use Rattle.dk_pqmodel.specs.Projection.{Path, projection}
 use Rattle.dk_pqmeta.proofs.Footers.{footer_found}
 use Rattle.dk_lawful.specs.CheckpointSchema.{read_fields, txn_group, add_group, vector_group, remove_group, format_group, metadata_group, protocol_group, domain_group, checkpoint_group, sidecar_group}
 use Rattle.dk_lawful.specs.RowExample.{of, text, number as number_cell}
@@ -105,10 +105,10 @@ is_page values body read small = record {
   fits = small;
 }
 
-abbrev full : ℕ → Value → Entry
+abbrev full : ℕ → Value → Triple
 full d v = record { repetition = 0; definition = d; value = Some v }
 
-abbrev nothing : Entry
+abbrev nothing : Triple
 nothing = record { repetition = 0; definition = 0; value = None }
 
 is_full : (d : ℕ) (v : Value) → IsFull d (full d v)
@@ -233,10 +233,10 @@ second_levels = record {
   first = refl;
 }
 
-abbrev At : ℕ → Entry → Type 0
+abbrev At : ℕ → Triple → Type 0
 At r e = e.repetition ≤ r
 
-both : (P : Entry → Type 0) (d e : Entry) → P d → P e → All P (d ∷ e ∷ [])
+both : (P : Triple → Type 0) (d e : Triple) → P d → P e → All P (d ∷ e ∷ [])
 both P d e p q = All-cons P d (e ∷ []) p (All-cons P e [] q (All-nil P))
 
 first_full : (path : Path) (kind : shape.Leaf) (v : Value) → AreFull (optional path kind) (first_triples v)
@@ -318,7 +318,7 @@ has_triples before column chunk triples front bytes behind plain typed whole beg
 abbrev add_said_group : RowGroup
 add_said_group = record { rows = 1; columns = add_chunks }
 
-add_held : HasColumns add_pages add_said_group (columns_of (laid read_fields add_said.fields) 0 0) add_columns
+add_held : HasColumns add_pages add_said_group (columns_of (projection read_fields add_said.fields) 0 0) add_columns
 unfolding bytes_on_literals schema_on_literals
 add_held = (
   (_, (0, (omega arith), refl), has_triples add_pages _ _ _ magic path_page (number_page 1 ++ (number_page 5 ++ flag_page)) refl refl refl refl path_is_page refl),
@@ -382,7 +382,7 @@ version_is_page name =
 abbrev head_said_group : RowGroup
 head_said_group = record { rows = 2; columns = head_chunks }
 
-head_held : HasColumns head_pages head_said_group (columns_of (laid read_fields head_said.fields) 0 0) head_columns
+head_held : HasColumns head_pages head_said_group (columns_of (projection read_fields head_said.fields) 0 0) head_columns
 unfolding bytes_on_literals schema_on_literals
 head_held = (
   (_, (0, (omega arith), refl), has_triples head_pages _ _ _ magic id_page (schema_page ++ (version_page ++ version_page)) refl refl refl refl id_is_page refl),

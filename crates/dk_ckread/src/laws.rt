@@ -4,7 +4,7 @@ ghost use Rattle.std.specs.Prelude.{pos};
 ghost use Rattle.dk_ckread.specs.ParquetExample.{first_part, in_one_object, in_parts, parts_in_use, with_sidecar};
 ghost use Rattle.dk_ckread.specs.ParquetFiles.{add_file, head_file};
 ghost use Rattle.dk_ckread.specs.ParquetRows.{add_rows, head_rows};
-ghost use Rattle.dk_lawful.specs.CheckpointLaws.{CheckpointMeansOne, ReadPartsStand, ReadTopsStand};
+ghost use Rattle.dk_lawful.specs.CheckpointLaws.{CheckpointMeansOne, ReadCheckpointsStand};
 ghost use Rattle.dk_lawful.specs.ContentLaws.{ClassicMayBeMade, V2MayBeMade};
 ghost use Rattle.dk_lawful.specs.CheckpointSchema.{read_fields};
 ghost use Rattle.dk_lawful.specs.Example.{IsForbidden, example};
@@ -20,8 +20,7 @@ ghost use Rattle.dk_store.specs.Told.{Made};
 /// PROTOCOL.md, "Checkpoints").
 pub fn checkpoints_mean_one()
     ensures one { CheckpointMeansOne }
-    ensures read_parts { ReadPartsStand }
-    ensures read_tops { ReadTopsStand }
+    ensures read { ReadCheckpointsStand }
 {}
 
 /// Whatever a version of a lawful log is read from, a complete checkpoint or none and then commits and compacted files, leads to

@@ -1,7 +1,7 @@
 -- The schema of checkpoints in Parquet (Delta Lake's PROTOCOL.md, "Checkpoint Schema"): a group for each kind of action, of which a row
 -- fills one.
 use Rattle.std.specs.Prelude.{ℕ, List, [], ◌∷◌, ◌++◌, true, codes}
-use Rattle.dk_pqmodel.specs.Shape.{flag, int32, int64, chars, Shape, leaf, group, list, dictionary, Field, field, Fields, no_fields, one_field}
+use Rattle.dk_pqmodel.specs.Shape.{flag, int32, int64, chars, Shape, leaf, group, list, map_of, Field, field, Fields, no_fields, one_field}
 use Rattle.dk_model.specs.declared.action_key.ActionKey.{ActionKey}
 use Rattle.dk_model.specs.declared.action_key.ActionKey.TheVariants as key
 use Rattle.dk_model.specs.ActionKeys.{name_of}
@@ -18,7 +18,7 @@ abbrev pub texts : Shape
 texts = list (optional [] (leaf chars))
 
 abbrev pub text_map : Shape
-text_map = dictionary (optional [] (leaf chars))
+text_map = map_of (optional [] (leaf chars))
 
 -- ---- the groups
 

@@ -7,14 +7,14 @@ use Rattle.dk_pqmodel.specs.Shape.{Field, width_in, width_of, deepest_in, deepes
 use Rattle.dk_pqmodel.specs.Datum.{appended, Datum, Cells, no_cells, one_cell, list, group, Column}
 use Rattle.dk_pqmodel.specs.NodeView.{field_of, fields_of, shape_of}
 use Rattle.dk_pqmodel.specs.RowView.{datum_of, cells_of, rows_of}
-use Rattle.dk_pqmodel.specs.ColumnView.{entry_of}
+use Rattle.dk_pqmodel.specs.ColumnView.{triple_of}
 use Rattle.dk_pqmodel.specs.declared.columns.Triple.{Triple}
 use Rattle.dk_pqmodel.specs.declared.row.Row.{Row}
 use Rattle.dk_levels.specs.declared.levels.Repeated.{Repeated}
 use Rattle.dk_levels.specs.declared.levels.Repeated.TheVariants.{Elements, Entries}
 use Rattle.dk_pqmodel.specs.declared.node.Node.{Node}
 use Rattle.dk_pqmodel.specs.declared.row.Cell.{Cell}
-use Rattle.dk_levels.specs.Reading.{taken, first_entry, none_at, nothing_at, ◌>>=◌, Reader, later_at, list_cells_at, present_at, cells_at, cell_at}
+use Rattle.dk_levels.specs.Reading.{taken, first_triple, none_at, nothing_at, ◌>>=◌, Reader, later_at, list_cells_at, present_at, cells_at, cell_at}
 use Rattle.dk_levels.specs.Solid.{IsSolid, AreSolid}
 use Rattle.dk_levels.specs.Fronts.{fronts, front_of, repeated_at, element_width, cells_before}
 use Rattle.dk_levels.specs.Answers.{FailsMeant}
@@ -24,20 +24,20 @@ use Rattle.dk_levels.proofs.Begins.{taken_suc, wide}
 use Rattle.dk_pqmodel.proofs.NodeViews.{fields_of-drop, shape_of-List, shape_of-Map}
 
 -- what is taken off the end of a turned column is its first triple
-front_is : (v new : Vec Triple Global) (t : Triple) → v.items ≡ new.items ++ t ∷ [] → front_of v ≡ entry_of t ∷ front_of new
-front_is v new t e = ap (λ x. map entry_of (reverse x)) e ∙ ap (map entry_of) (reverse-append new.items (t ∷ []))
+front_is : (v new : Vec Triple Global) (t : Triple) → v.items ≡ new.items ++ t ∷ [] → front_of v ≡ triple_of t ∷ front_of new
+front_is v new t e = ap (λ x. map triple_of (reverse x)) e ∙ ap (map triple_of) (reverse-append new.items (t ∷ []))
 
 front_none : (v : Vec Triple Global) → v.items ≡ [] → front_of v ≡ []
-front_none v e = ap (λ x. map entry_of (reverse x)) e
+front_none v e = ap (λ x. map triple_of (reverse x)) e
 
 pub taken_front : (rest : List (Vec Triple Global)) (place : ℕ) (d new : Vec Triple Global) (t : Triple)
-    → place < length rest → (get_or rest place d).items ≡ new.items ++ t ∷ [] → first_entry (fronts rest) place ≡ Some (entry_of t, fronts (set rest place new))
+    → place < length rest → (get_or rest place d).items ≡ new.items ++ t ∷ [] → first_triple (fronts rest) place ≡ Some (triple_of t, fronts (set rest place new))
 taken_front [] place d new t h e = absurd (omega arith)
 taken_front (v ∷ rest) zero d new t h e = ap (λ x. taken x (fronts (v ∷ rest)) 0) (front_is v new t e)
 taken_front (v ∷ rest) (suc place) d new t h e = taken_suc _ _ _ place _ _ (taken_front rest place d new t (omega arith) e)
 
 pub nothing_left : (rest : List (Vec Triple Global)) (place : ℕ) (d : Vec Triple Global)
-    → place < length rest → (get_or rest place d).items ≡ [] → first_entry (fronts rest) place ≡ None
+    → place < length rest → (get_or rest place d).items ≡ [] → first_triple (fronts rest) place ≡ None
 nothing_left [] place d h e = absurd (omega arith)
 nothing_left (v ∷ rest) zero d h e = ap (λ x. taken x (fronts (v ∷ rest)) 0) (front_none v e)
 nothing_left (v ∷ rest) (suc place) d h e = later (get_or (fronts rest) place []) (nothing_left rest place d (omega arith) e)
@@ -54,7 +54,7 @@ is_empty (x ∷ xs) h = absurd (omega arith)
 pub taken_end : (rest : List (Vec Triple Global)) (place : ℕ) (d new : Vec Triple Global) (o : Option Triple)
     → place < length rest → (get_or rest place d).items ≡ new.items ++ option_to_list o
     → MatchOption o ((vec_len (get_or rest place d) ≡ 0) × (vec_len new ≡ 0)) (λ t. vec_len new + 1 ≡ vec_len (get_or rest place d))
-    → MatchOption o (first_entry (fronts rest) place ≡ None) (λ t. first_entry (fronts rest) place ≡ Some (entry_of t, fronts (set rest place new)))
+    → MatchOption o (first_triple (fronts rest) place ≡ None) (λ t. first_triple (fronts rest) place ≡ Some (triple_of t, fronts (set rest place new)))
 taken_end rest place d new None h e cases = nothing_left rest place d h (is_empty (get_or rest place d).items (omega (arith, cases.0, (get_or rest place d).ok.0)))
 taken_end rest place d new (Some t) h e cases = taken_front rest place d new t h e
 

@@ -1,11 +1,11 @@
 -- What is read of a file for a schema can be read.
 use Rattle.std.proofs.Common.{◌≡◌, ℕ, ◌+◌, ◌*◌, ◌<◌, ◌≤◌, Bool, true, false, cond, ◌&&◌, [], ◌∷◌, ◌++◌, Option, Some, None, refl, arith}
 use Rattle.std.specs.Option.{option_map}
-use Rattle.dk_pqmodel.specs.Shape.{chars, Shape, leaf, dictionary, Field, field, Fields, no_fields, one_field, width_of, deepest_in, deepest_of}
+use Rattle.dk_pqmodel.specs.Shape.{chars, Shape, leaf, map_of, Field, field, Fields, no_fields, one_field, width_of, deepest_in, deepest_of}
 use Rattle.dk_pqmodel.specs.Shape as shape
 use Rattle.dk_pqmodel.specs.Schema.{levels_at, levels_in, levels_of, IsSchema}
 use Rattle.dk_pqmodel.specs.FileSchema.{FileNode, FileNodes, node_name, is_optional, named_in, leaf_kind, group_nodes, repeated_node, only_node, two_nodes}
-use Rattle.dk_pqmodel.specs.Laid.{Path, Plan, missing, members, elements, entries, Plans, is_missing, all_missing, on_some, elements_of, laid_at, laid_in, laid_each, laid_named, laid, field_then, cut_of, cuts_of}
+use Rattle.dk_pqmodel.specs.Projection.{Path, Plan, missing, members, elements, entries, Plans, is_missing, all_missing, on_some, elements_of, projection_at, projection_in, projection_each, projection_named, projection, field_then, projected_field, projected_fields}
 use Rattle.dk_levels.specs.Solid.{IsSolid, AreSolid, IsReadable}
 use Rattle.dk_levels.proofs.Begins.{wide}
 use Rattle.dk_levels.proofs.Readable.{optional_most}
@@ -16,19 +16,19 @@ Tight None lacks n = lacks ≡ true
 Tight (Some f) lacks n = (lacks ≡ false) × IsSolid f × (deepest_in f ≤ n)
 
 abbrev TightPlan : Plan → ℕ → Type 0
-TightPlan p n = Tight (cut_of p) (is_missing p) n
+TightPlan p n = Tight (projected_field p) (is_missing p) n
 
 record TightPlans (ps : Plans) (n : ℕ) : Type 0 where
-  pub solid : AreSolid (cuts_of ps)
-  pub deep : deepest_of (cuts_of ps) ≤ n
-  pub some : all_missing ps ≡ false → 0 < width_of (cuts_of ps)
+  pub solid : AreSolid (projected_fields ps)
+  pub deep : deepest_of (projected_fields ps) ≤ n
+  pub some : all_missing ps ≡ false → 0 < width_of (projected_fields ps)
 
 tight_up : (o : Option Field) (lacks : Bool) (m n : ℕ) → m ≤ n → Tight o lacks m → Tight o lacks n
 tight_up None lacks m n h t = t
 tight_up (Some f) lacks m n h t = (t.0, t.1, omega (arith, t.2))
 
 plan_up : (p : Plan) (m n : ℕ) → m ≤ n → TightPlan p m → TightPlan p n
-plan_up p m n h t = tight_up (cut_of p) (is_missing p) m n h t
+plan_up p m n h t = tight_up (projected_field p) (is_missing p) m n h t
 
 on_some_tight : {A : Type 0} (o : Option A) (f : A → Plan) (n : ℕ) → ((x : A) → TightPlan (f x) n) → TightPlan (on_some o f) n
 on_some_tight None f n h = refl
@@ -57,13 +57,13 @@ list_tight (Some f) lacks b n e t = (refl, t.1, omega (arith, t.2, optional_most
 
 elements_tight : (lacks b : Bool) (p : Plan) (n : ℕ) → is_missing p ≡ lacks → TightPlan p n → TightPlan (cond lacks missing (elements b p)) (2 + n)
 elements_tight true b p n e t = refl
-elements_tight false b p n e t = list_tight (cut_of p) (is_missing p) b n e t
+elements_tight false b p n e t = list_tight (projected_field p) (is_missing p) b n e t
 
 entries_tight : (b k : Bool) (path : Path) (p : Plan) (n : ℕ) → 1 ≤ n → TightPlan p n → TightPlan (entries b k path p) (2 + n)
 entries_tight b k path p n h t = (
   refl,
-  (omega arith, (tt, then_solid (cut_of p) (is_missing p) n no_fields t tt)),
-  omega (arith, optional_most b, optional_most k, h, then_deep (cut_of p) (is_missing p) n no_fields t (omega arith)),
+  (omega arith, (tt, then_solid (projected_field p) (is_missing p) n no_fields t tt)),
+  omega (arith, optional_most b, optional_most k, h, then_deep (projected_field p) (is_missing p) n no_fields t (omega arith)),
 )
 
 -- two levels for each level of fields, but one for the field's own shape
@@ -77,38 +77,38 @@ bound_some : (f : Field) → 1 ≤ bound f
 bound_some (field name nullable s) = omega arith
 
 mutual
-  at_tight : (s : Shape) (path : Path) (n : FileNode) → TightPlan (laid_at s path n) (1 + 2 * levels_at s)
+  at_tight : (s : Shape) (path : Path) (n : FileNode) → TightPlan (projection_at s path n) (1 + 2 * levels_at s)
   at_tight (leaf l) path n = on_some_tight (leaf_kind l n) _ 1 (λ kind. (refl, tt, omega (arith, optional_most (is_optional n))))
   at_tight (shape.group fs) path n =
-      on_some_tight (group_nodes n) _ (1 + 2 * levels_of fs) (λ ns. members_tight _ (is_optional n) (laid_each fs path ns) (2 * levels_of fs) refl (each_tight fs path ns))
+      on_some_tight (group_nodes n) _ (1 + 2 * levels_of fs) (λ ns. members_tight _ (is_optional n) (projection_each fs path ns) (2 * levels_of fs) refl (each_tight fs path ns))
   at_tight (shape.list f) path n =
       on_some_tight (repeated_node n) _ (1 + 2 * levels_in f) (λ r. on_some_tight (only_node r) _ (1 + 2 * levels_in f) (λ e.
-      let p : Plan = laid_in f (path ++ node_name r ∷ node_name e ∷ []) e in
+      let p : Plan = projection_in f (path ++ node_name r ∷ node_name e ∷ []) e in
       plan_up (elements_of (is_optional n) p) (2 + bound f) (1 + 2 * levels_in f) (omega (arith, bound_is f))
       (elements_tight (is_missing p) (is_optional n) p (bound f) refl (in_tight f (path ++ node_name r ∷ node_name e ∷ []) e))))
-  at_tight (dictionary f) path n =
+  at_tight (map_of f) path n =
       on_some_tight (repeated_node n) _ (1 + 2 * levels_in f) (λ r. on_some_tight (two_nodes r) _ (1 + 2 * levels_in f) (λ pair. on_some_tight (leaf_kind chars pair.0) _ (1 + 2 * levels_in f) (λ l.
-      let p : Plan = laid_in f (path ++ node_name r ∷ node_name pair.1 ∷ []) pair.1 in
+      let p : Plan = projection_in f (path ++ node_name r ∷ node_name pair.1 ∷ []) pair.1 in
       let key : Path = path ++ node_name r ∷ node_name pair.0 ∷ [] in
       plan_up (entries (is_optional n) (is_optional pair.0) key p) (2 + bound f) (1 + 2 * levels_in f) (omega (arith, bound_is f))
       (entries_tight (is_optional n) (is_optional pair.0) key p (bound f) (bound_some f) (in_tight f (path ++ node_name r ∷ node_name pair.1 ∷ []) pair.1)))))
 
-  in_tight : (f : Field) (path : Path) (n : FileNode) → TightPlan (laid_in f path n) (bound f)
+  in_tight : (f : Field) (path : Path) (n : FileNode) → TightPlan (projection_in f path n) (bound f)
   in_tight (field name nullable s) path n = at_tight s path n
 
-  each_tight : (fs : Fields) (path : Path) (ns : FileNodes) → TightPlans (laid_each fs path ns) (2 * levels_of fs)
+  each_tight : (fs : Fields) (path : Path) (ns : FileNodes) → TightPlans (projection_each fs path ns) (2 * levels_of fs)
   each_tight no_fields path ns = record { solid = tt; deep = omega arith; some = λ h. cc }
   each_tight (one_field f fs) path ns =
-      let p : Plan = laid_named f path ns in
-      let t = tight_up (cut_of p) (is_missing p) (bound f) (2 * levels_of (one_field f fs)) (omega (arith, bound_is f)) (named_tight f path ns) in
+      let p : Plan = projection_named f path ns in
+      let t = tight_up (projected_field p) (is_missing p) (bound f) (2 * levels_of (one_field f fs)) (omega (arith, bound_is f)) (named_tight f path ns) in
       let ts = each_tight fs path ns in
       record {
-        solid = then_solid (cut_of p) (is_missing p) (2 * levels_of (one_field f fs)) (cuts_of (laid_each fs path ns)) t ts.solid;
-        deep = then_deep (cut_of p) (is_missing p) (2 * levels_of (one_field f fs)) (cuts_of (laid_each fs path ns)) t (omega (arith, ts.deep));
-        some = λ e. then_some (cut_of p) (is_missing p) (all_missing (laid_each fs path ns)) (2 * levels_of (one_field f fs)) (cuts_of (laid_each fs path ns)) t ts.some e;
+        solid = then_solid (projected_field p) (is_missing p) (2 * levels_of (one_field f fs)) (projected_fields (projection_each fs path ns)) t ts.solid;
+        deep = then_deep (projected_field p) (is_missing p) (2 * levels_of (one_field f fs)) (projected_fields (projection_each fs path ns)) t (omega (arith, ts.deep));
+        some = λ e. then_some (projected_field p) (is_missing p) (all_missing (projection_each fs path ns)) (2 * levels_of (one_field f fs)) (projected_fields (projection_each fs path ns)) t ts.some e;
       }
 
-  named_tight : (f : Field) (path : Path) (ns : FileNodes) → TightPlan (laid_named f path ns) (bound f)
+  named_tight : (f : Field) (path : Path) (ns : FileNodes) → TightPlan (projection_named f path ns) (bound f)
   named_tight (field name nullable s) path ns = on_some_tight (named_in name ns) _ _ (λ n. at_tight s (path ++ name ∷ []) n)
 
 -- whatever is wanted, each field of the cut has a column
@@ -116,9 +116,9 @@ pub record IsSolidCut (fs : Fields) : Type 0 where
   pub wide : 0 < width_of fs
   pub solid : AreSolid fs
 
-pub cuts_are_solid : (fs : Fields) (ns : FileNodes) → all_missing (laid fs ns) ≡ false → IsSolidCut (cuts_of (laid fs ns))
-cuts_are_solid fs ns e = let t = each_tight fs [] ns in record { wide = t.some e; solid = t.solid }
+pub projected_is_solid : (fs : Fields) (ns : FileNodes) → all_missing (projection fs ns) ≡ false → IsSolidCut (projected_fields (projection fs ns))
+projected_is_solid fs ns e = let t = each_tight fs [] ns in record { wide = t.some e; solid = t.solid }
 
-pub cuts_are_readable : (fs : Fields) (ns : FileNodes) → IsSchema fs → all_missing (laid fs ns) ≡ false → IsReadable (cuts_of (laid fs ns))
-cuts_are_readable fs ns h e =
+pub projected_is_readable : (fs : Fields) (ns : FileNodes) → IsSchema fs → all_missing (projection fs ns) ≡ false → IsReadable (projected_fields (projection fs ns))
+projected_is_readable fs ns h e =
     let t = each_tight fs [] ns in record { wide = t.some e; solid = t.solid; deep = omega (arith, t.deep, h.levels) }

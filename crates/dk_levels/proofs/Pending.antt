@@ -1,12 +1,12 @@
 -- What is still to be put, in a loop over the fields of a group.
 use Rattle.std.proofs.Common.{◌≡◌, ℕ, zero, suc, ◌+◌, ◌<◌, ◌≤◌, List, [], ◌∷◌, ◌++◌, length, get_or, drop, map, refl, sym, ap, ◌∙◌, arith, Vec, Global, Box, None, replicate, append_assoc, add-zero, subst}
 use Rattle.std.proofs.lemmas.List.{append-nil, replicate-append-replicate, length-replicate, length-map, drop_all, map-append}
-use Rattle.dk_pqmodel.specs.Datum.{Column, one_entry}
+use Rattle.dk_pqmodel.specs.Datum.{Column, single_triple}
 use Rattle.dk_pqmodel.specs.Shape.{one_field, width_of, width_at, Field, Fields, deepest_of, shape_in, entry, root}
-use Rattle.dk_pqmodel.specs.Triples.{joined, empty_columns, nothing, group_triples, later_triples}
+use Rattle.dk_pqmodel.specs.Triples.{columns_joined, empty_columns, nothing, group_triples, later_triples}
 use Rattle.dk_pqmodel.specs.NodeView.{fields_of, field_of, shape_of}
 use Rattle.dk_pqmodel.specs.RowView.{cells_of, rows_of}
-use Rattle.dk_levels.specs.Borrowed.{columns_of, column_of, entry_of}
+use Rattle.dk_levels.specs.Borrowed.{columns_of, column_of, triple_of}
 use Rattle.dk_levels.specs.declared.borrowed.BorrowedTriple.{BorrowedTriple}
 use Rattle.dk_pqmodel.specs.declared.row.Row.{Row}
 use Rattle.dk_pqmodel.specs.declared.node.Node.{Node}
@@ -19,20 +19,20 @@ use Rattle.dk_pqmodel.proofs.NodeViews.{fields_of-drop, field_of-is, shape_of-Ma
 
 -- once ts are put, width columns from next on, the columns are total, and the next place is end
 pub record Pending (columns : List (Vec BorrowedTriple Global)) (next : ℕ) (ts : List Column) (width : ℕ) (total : List Column) (end : ℕ) : Type 0 where
-  pub columns_are : joined (columns_of columns) (from next ts) ≡ total
+  pub columns_are : columns_joined (columns_of columns) (from next ts) ≡ total
   pub ends : next + width ≡ end
 
-pub pending_begins : (cs : List (Vec BorrowedTriple Global)) (next : ℕ) (ts : List Column) (w : ℕ) → Pending cs next ts w (joined (columns_of cs) (from next ts)) (next + w)
+pub pending_begins : (cs : List (Vec BorrowedTriple Global)) (next : ℕ) (ts : List Column) (w : ℕ) → Pending cs next ts w (columns_joined (columns_of cs) (from next ts)) (next + w)
 pending_begins cs next ts w = record { columns_are = refl; ends = refl }
 
 pub pending_step : (cs more : List (Vec BorrowedTriple Global)) (next after w v end : ℕ) (a b total : List Column)
     → Adds next cs more a → after ≡ next + w → length a ≡ w → Pending cs next (a ++ b) (w + v) total end → Pending more after b v total end
 pending_step cs more next after w v end a b total added moved n p = record {
-  columns_are = ap (λ x. joined x (from after b)) added ∙ ap (λ k. joined (joined (columns_of cs) (from next a)) (from k b)) moved ∙ adds_beside next w (columns_of cs) a b n ∙ p.columns_are;
+  columns_are = ap (λ x. columns_joined x (from after b)) added ∙ ap (λ k. columns_joined (columns_joined (columns_of cs) (from next a)) (from k b)) moved ∙ adds_beside next w (columns_of cs) a b n ∙ p.columns_are;
   ends = omega (arith, p.ends, moved);
 }
 
-pub joined-empties : (n : ℕ) (cs : List Column) → n ≤ length cs → joined cs (from n []) ≡ cs
+pub joined-empties : (n : ℕ) (cs : List Column) → n ≤ length cs → columns_joined cs (from n []) ≡ cs
 joined-empties zero cs h = joined-nothing cs
 joined-empties (suc n) [] h = absurd (omega arith)
 joined-empties (suc n) (c ∷ cs) h = cc (append-nil c, joined-empties n cs (omega arith))
@@ -65,12 +65,12 @@ nothing_ends ns i cs next end e total h p room =
 
 -- the columns of a map: the key's, and the value's
 pub nothing_map : (b : Box Node Global) (cs between more : List (Vec BorrowedTriple Global)) (leaf next : ℕ) (r d : ℕ)
-    → Adds leaf cs between (one_entry r d None ∷ []) → next ≡ leaf + 1 → Adds next between more (nothing (shape_of b.value.kind) r d)
+    → Adds leaf cs between (single_triple r d None ∷ []) → next ≡ leaf + 1 → Adds next between more (nothing (shape_of b.value.kind) r d)
     → Adds leaf cs more (nothing (shape_of (Map b)) r d)
 nothing_map b cs between more leaf next r d first moved rest =
     rw (shape_of-Map b, field_of-is b.value)
-    (let p = pending_begins cs leaf (replicate (1 + width_at (shape_of b.value.kind)) (one_entry r d None)) (1 + width_at (shape_of b.value.kind)) in
-    let q = nothing_step cs between leaf next 1 (width_at (shape_of b.value.kind)) _ (one_entry r d None) _ first moved p in
+    (let p = pending_begins cs leaf (replicate (1 + width_at (shape_of b.value.kind)) (single_triple r d None)) (1 + width_at (shape_of b.value.kind)) in
+    let q = nothing_step cs between leaf next 1 (width_at (shape_of b.value.kind)) _ (single_triple r d None) _ first moved p in
     rest ∙ q.columns_are)
 
 -- cells that are still to be put, each into the columns of its node
@@ -81,28 +81,28 @@ pub record GroupPending (columns : List (Vec BorrowedTriple Global)) (next : ℕ
 
 -- elements that are still to be put behind one another
 pub record LaterPending (columns : List (Vec BorrowedTriple Global)) (leaf : ℕ) (f : Field) (cells : List Cell) (d k : ℕ) (total : List Column) : Type 0 where
-  pub columns_are : joined (columns_of columns) (from leaf (later_triples (cells_of cells) f d k)) ≡ total
+  pub columns_are : columns_joined (columns_of columns) (from leaf (later_triples (cells_of cells) f d k)) ≡ total
   pub fits : MatchAll (cells_of cells) f
 
 -- the same of an entry
 pub nothing_entry : (n : Node) (cs between more : List (Vec BorrowedTriple Global)) (leaf next : ℕ) (r d : ℕ)
-    → Adds leaf cs between (one_entry r d None ∷ []) → next ≡ leaf + 1 → Adds next between more (nothing (shape_of n.kind) r d)
+    → Adds leaf cs between (single_triple r d None ∷ []) → next ≡ leaf + 1 → Adds next between more (nothing (shape_of n.kind) r d)
     → Adds leaf cs more (nothing (shape_in (entry (field_of n))) r d)
 nothing_entry n cs between more leaf next r d first moved rest =
     rw (field_of-is n)
-    (let p = pending_begins cs leaf (replicate (1 + (width_at (shape_of n.kind) + 0)) (one_entry r d None)) (1 + (width_at (shape_of n.kind) + 0)) in
-    let q = nothing_step cs between leaf next 1 (width_at (shape_of n.kind) + 0) _ (one_entry r d None) _ first moved p in
-    rest ∙ ap (λ w. joined (columns_of between) (from next (replicate w (one_entry r d None)))) (sym (add-zero _)) ∙ q.columns_are)
+    (let p = pending_begins cs leaf (replicate (1 + (width_at (shape_of n.kind) + 0)) (single_triple r d None)) (1 + (width_at (shape_of n.kind) + 0)) in
+    let q = nothing_step cs between leaf next 1 (width_at (shape_of n.kind) + 0) _ (single_triple r d None) _ first moved p in
+    rest ∙ ap (λ w. columns_joined (columns_of between) (from next (replicate w (single_triple r d None)))) (sym (add-zero _)) ∙ q.columns_are)
 
 -- rows that are still to be put behind one another
 pub record RowsPending (columns : List (Vec BorrowedTriple Global)) (fields : Fields) (rows : List Row) (total : List Column) : Type 0 where
-  pub columns_are : joined (columns_of columns) (from 0 (later_triples (rows_of rows) (root fields) 0 0)) ≡ total
+  pub columns_are : columns_joined (columns_of columns) (from 0 (later_triples (rows_of rows) (root fields) 0 0)) ≡ total
   pub fits : MatchAll (rows_of rows) (root fields)
 
 -- empty columns
 
 pub add_one : (cs more : List (Vec BorrowedTriple Global)) (v : Vec BorrowedTriple Global) → v.items ≡ [] → more ≡ cs ++ v ∷ [] → columns_of more ≡ columns_of cs ++ empty_columns 1
-add_one cs more v e h = ap columns_of h ∙ map-append column_of cs (v ∷ []) ∙ ap (λ items. columns_of cs ++ map entry_of items ∷ []) e
+add_one cs more v e h = ap columns_of h ∙ map-append column_of cs (v ∷ []) ∙ ap (λ items. columns_of cs ++ map triple_of items ∷ []) e
 
 pub add_loop : (ns : List Node) (i : ℕ) (n : Node) (cs more : List (Vec BorrowedTriple Global)) (total : List Column)
     → i < length ns → n ≡ get_or ns i n → columns_of more ≡ columns_of cs ++ empty_columns (width_at (shape_of n.kind))

@@ -4,7 +4,7 @@ use Rattle.std.proofs.lemmas.List.{append-nil, length-append, length-replicate, 
 use Rattle.dk_pqmodel.specs.Shape.{Shape, Field, Fields, field, no_fields, one_field, width_at, width_in, width_of, deepest_in, deepest_of, entry, key, root}
 use Rattle.dk_pqmodel.specs.Shape as shape
 use Rattle.dk_pqmodel.specs.Datum.{Value, Datum, null, atom, group, list, Cells, no_cells, one_cell, Column}
-use Rattle.dk_pqmodel.specs.Triples.{joined, reached, cell_triples, group_triples, list_triples, later_triples}
+use Rattle.dk_pqmodel.specs.Triples.{columns_joined, reached, cell_triples, group_triples, list_triples, later_triples}
 use Rattle.dk_pqmodel.specs.Fits.{Matches, MatchEach, MatchAll}
 use Rattle.dk_pqmodel.specs.NodeView.{field_of, fields_of}
 use Rattle.dk_pqmodel.specs.RowView.{datum_of, cells_of, rows_of}
@@ -66,7 +66,7 @@ on_leaf : (v : Value) (s : Shape) → Matches (atom v) (field [] false s) → 1 
 on_leaf v (shape.leaf l) h = refl
 on_leaf v (shape.group fs) h = absurd h
 on_leaf v (shape.list f) h = absurd h
-on_leaf v (shape.dictionary f) h = absurd h
+on_leaf v (shape.map_of f) h = absurd h
 
 mutual
   pub length-cell_triples : (c : Datum) (f : Field) (r d k : ℕ) → Matches c f → length (cell_triples c f r d k) ≡ width_in f
@@ -74,10 +74,10 @@ mutual
   length-cell_triples (atom v) (field name b s) r d k h = on_leaf v s h
   length-cell_triples (group cs) (field name b (shape.group fs)) r d k h = length-group_triples cs fs r _ k h
   length-cell_triples (list cs) (field name b (shape.list f)) r d k h = length-list_triples cs f r _ k h
-  length-cell_triples (list cs) (field name b (shape.dictionary f)) r d k h = length-list_triples cs (entry f) r _ k h ∙ ap (λ w. 1 + w) (add-zero _)
+  length-cell_triples (list cs) (field name b (shape.map_of f)) r d k h = length-list_triples cs (entry f) r _ k h ∙ ap (λ w. 1 + w) (add-zero _)
   length-cell_triples (group cs) (field name b (shape.leaf l)) r d k h = absurd h
   length-cell_triples (group cs) (field name b (shape.list f)) r d k h = absurd h
-  length-cell_triples (group cs) (field name b (shape.dictionary f)) r d k h = absurd h
+  length-cell_triples (group cs) (field name b (shape.map_of f)) r d k h = absurd h
   length-cell_triples (list cs) (field name b (shape.leaf l)) r d k h = absurd h
   length-cell_triples (list cs) (field name b (shape.group fs)) r d k h = absurd h
 
@@ -153,9 +153,9 @@ pub later_loop : (f : Field) (cs : List Cell) (i : ℕ) (c : Cell) (columns more
 later_loop f cs i c columns more leaf r d k total h is e added p =
     let es = cells_of-drop cs i c h is in
     let fits : Matches (datum_of c) f × MatchAll (cells_of (drop (i + 1) cs)) f = rw es at p.fits in
-    let are : joined (columns_of columns) (from leaf (joined (cell_triples (datum_of c) f k d k) (later_triples (cells_of (drop (i + 1) cs)) f d k))) ≡ total = rw es at p.columns_are in
+    let are : columns_joined (columns_of columns) (from leaf (columns_joined (cell_triples (datum_of c) f k d k) (later_triples (cells_of (drop (i + 1) cs)) f d k))) ≡ total = rw es at p.columns_are in
     record {
-      columns_are = ap (λ x. joined x (from leaf (later_triples (cells_of (drop (i + 1) cs)) f d k))) (added ∙ ap (λ j. joined (columns_of columns) (from leaf (cell_triples (datum_of c) f j d k))) e)
+      columns_are = ap (λ x. columns_joined x (from leaf (later_triples (cells_of (drop (i + 1) cs)) f d k))) (added ∙ ap (λ j. columns_joined (columns_of columns) (from leaf (cell_triples (datum_of c) f j d k))) e)
           ∙ adds_again leaf (columns_of columns) _ _ ∙ are;
       fits = fits.1;
     }
@@ -164,7 +164,7 @@ pub later_ends : (f : Field) (cs : List Cell) (i : ℕ) (columns : List (Vec Bor
     → length cs ≤ i → leaf ≤ length columns → LaterPending columns leaf f (drop i cs) d k total → columns_of columns ≡ total
 later_ends f cs i columns leaf d k total h room p =
     let ec : drop i cs ≡ [] = drop_all i cs h in
-    let are : joined (columns_of columns) (from leaf []) ≡ total = rw ec at p.columns_are in
+    let are : columns_joined (columns_of columns) (from leaf []) ≡ total = rw ec at p.columns_are in
     sym (joined-empties leaf (columns_of columns) (omega (arith, length-map columns column_of))) ∙ are
 
 pub list_ends : (f : Field) (cs : List Cell) (c : Cell) (columns between more : List (Vec BorrowedTriple Global)) (leaf r d k : ℕ)
@@ -174,7 +174,7 @@ pub list_ends : (f : Field) (cs : List Cell) (c : Cell) (columns between more : 
     → Adds leaf columns more (list_triples (cells_of cs) f r d k)
 list_ends f cs c columns between more leaf r d k h is first others =
     rw (cells_of-drop cs 0 c h is)
-    (others ∙ ap (λ x. joined x (from leaf (later_triples (cells_of (drop 1 cs)) f (d + 1) (k + 1)))) first ∙ adds_again leaf (columns_of columns) _ _)
+    (others ∙ ap (λ x. columns_joined x (from leaf (later_triples (cells_of (drop 1 cs)) f (d + 1) (k + 1)))) first ∙ adds_again leaf (columns_of columns) _ _)
 
 -- ---- entries of a map
 
@@ -197,9 +197,9 @@ pub rows_loop : (fs : Fields) (rows : List Row) (i : ℕ) (row : Row) (columns m
 rows_loop fs rows i row columns more total h is added p =
     let es : rows_of (drop i rows) ≡ one_cell (group (cells_of row.cells.items)) (rows_of (drop (i + 1) rows)) = rw add-one (rows_of-drop_suc rows i row h is) in
     let fits : MatchEach (cells_of row.cells.items) fs × MatchAll (rows_of (drop (i + 1) rows)) (root fs) = rw es at p.fits in
-    let are : joined (columns_of columns) (from 0 (joined (group_triples (cells_of row.cells.items) fs 0 0 0) (later_triples (rows_of (drop (i + 1) rows)) (root fs) 0 0))) ≡ total = rw es at p.columns_are in
+    let are : columns_joined (columns_of columns) (from 0 (columns_joined (group_triples (cells_of row.cells.items) fs 0 0 0) (later_triples (rows_of (drop (i + 1) rows)) (root fs) 0 0))) ≡ total = rw es at p.columns_are in
     record {
-      columns_are = ap (λ x. joined x (from 0 (later_triples (rows_of (drop (i + 1) rows)) (root fs) 0 0))) added ∙ adds_again 0 (columns_of columns) _ _ ∙ are;
+      columns_are = ap (λ x. columns_joined x (from 0 (later_triples (rows_of (drop (i + 1) rows)) (root fs) 0 0))) added ∙ adds_again 0 (columns_of columns) _ _ ∙ are;
       fits = fits.1;
     }
 
@@ -207,7 +207,7 @@ pub rows_end : (fs : Fields) (rows : List Row) (i : ℕ) (columns : List (Vec Bo
     → length rows ≤ i → RowsPending columns fs (drop i rows) total → columns_of columns ≡ total
 rows_end fs rows i columns total h p =
     let e : drop i rows ≡ [] = drop_all i rows h in
-    let are : joined (columns_of columns) [] ≡ total = rw e at p.columns_are in
+    let are : columns_joined (columns_of columns) [] ≡ total = rw e at p.columns_are in
     sym (joined-nothing (columns_of columns)) ∙ are
 
 pub pair_ends : (cs : List Cell) (f : Field) (a b : Cell) (columns between more : List (Vec BorrowedTriple Global)) (leaf value r d k : ℕ)
@@ -220,7 +220,7 @@ pair_ends (x ∷ y ∷ z ∷ cs) f a b columns between more leaf value r d k h e
 pair_ends (x ∷ y ∷ []) f a b columns between more leaf value r d k h ea eb first moved second =
     let one : length (cell_triples (datum_of x) key r d k) ≡ 1 = length-cell_triples (datum_of x) key r d k h.0 in
     rw (append-nil (cell_triples (datum_of y) f r d k))
-    (second ∙ ap (λ z. joined (columns_of between) (from value (cell_triples (datum_of z) f r d k))) eb
-    ∙ ap (λ w. joined (columns_of between) (from w (cell_triples (datum_of y) f r d k))) moved
-    ∙ ap (λ m. joined m (from (leaf + 1) (cell_triples (datum_of y) f r d k))) (first ∙ ap (λ z. joined (columns_of columns) (from leaf (cell_triples (datum_of z) key r d k))) ea)
+    (second ∙ ap (λ z. columns_joined (columns_of between) (from value (cell_triples (datum_of z) f r d k))) eb
+    ∙ ap (λ w. columns_joined (columns_of between) (from w (cell_triples (datum_of y) f r d k))) moved
+    ∙ ap (λ m. columns_joined m (from (leaf + 1) (cell_triples (datum_of y) f r d k))) (first ∙ ap (λ z. columns_joined (columns_of columns) (from leaf (cell_triples (datum_of z) key r d k))) ea)
     ∙ adds_beside leaf 1 (columns_of columns) _ _ one)

@@ -1,6 +1,6 @@
 -- The fields of a schema can be read.
 use Rattle.std.proofs.Common.{◌≡◌, ◌+◌, ◌*◌, ◌<◌, ◌≤◌, Bool, true, false, cond, ◌&&◌, arith}
-use Rattle.dk_pqmodel.specs.Shape.{Shape, leaf, group, list, dictionary, Field, field, Fields, no_fields, one_field, width_of, deepest_at, deepest_in, deepest_of}
+use Rattle.dk_pqmodel.specs.Shape.{Shape, leaf, group, list, map_of, Field, field, Fields, no_fields, one_field, width_of, deepest_at, deepest_in, deepest_of}
 use Rattle.dk_pqmodel.specs.Schema.{has_fields, are_distinct, is_sound_shape, is_sound, are_sound, levels_at, levels_in, levels_of, IsSchema}
 use Rattle.dk_levels.specs.Solid.{IsSolidShape, IsSolid, AreSolid, IsReadable}
 use Rattle.dk_levels.proofs.Begins.{wide}
@@ -20,7 +20,7 @@ mutual
       let solid : AreSolid fs = solid_fields fs all.1 in
       (some_wide fs some.0 solid, solid)
   solid_shape (list f) h = solid_field f h
-  solid_shape (dictionary f) h = solid_field f h
+  solid_shape (map_of f) h = solid_field f h
 
   solid_field : (f : Field) → is_sound f ≡ true → IsSolid f
   solid_field (field name nullable s) h = solid_shape s h
@@ -41,7 +41,7 @@ mutual
   deep_shape (leaf l) = omega arith
   deep_shape (group fs) = omega (arith, deep_fields fs)
   deep_shape (list f) = omega (arith, deep_field f)
-  deep_shape (dictionary f) = omega (arith, deep_field f)
+  deep_shape (map_of f) = omega (arith, deep_field f)
 
   deep_field : (f : Field) → deepest_in f ≤ 2 * levels_in f
   deep_field (field name nullable s) = omega (arith, deep_shape s, optional_most nullable)

@@ -4,11 +4,11 @@ use Rattle.std.specs.Option.{option_map, is_none}
 use Rattle.std.proofs.lemmas.List.{append-nil}
 use Rattle.dk_pqmodel.specs.Shape.{Leaf, Shape, Field, Fields, field, no_fields, one_field, width_at, width_in, width_of, entry, key, root}
 use Rattle.dk_pqmodel.specs.Shape as shape
-use Rattle.dk_pqmodel.specs.Datum.{Value, Datum, null, atom, group, list, Cells, no_cells, Entry, Column, one_entry}
-use Rattle.dk_pqmodel.specs.Triples.{joined, cell_triples, group_triples, list_triples, later_triples, empty_columns, triples}
+use Rattle.dk_pqmodel.specs.Datum.{Value, Datum, null, atom, group, list, Cells, no_cells, Triple, Column, single_triple}
+use Rattle.dk_pqmodel.specs.Triples.{columns_joined, cell_triples, group_triples, list_triples, later_triples, empty_columns, triples}
 use Rattle.dk_pqmodel.specs.Fits.{Matches, MatchEach, MatchAll}
 use Rattle.dk_levels.specs.Places.{from}
-use Rattle.dk_levels.specs.Reading.{begins, at_definition, at_repetition, taken, first_entry, guarded, ◌>>=◌, nothing_at, some_at, none_at, leaf_at, Reader, later_at, list_cells_at, pair_at, present_at, cell_at, cells_at, all_empty, rows_at}
+use Rattle.dk_levels.specs.Reading.{begins, at_definition, at_repetition, taken, first_triple, guarded, ◌>>=◌, nothing_at, some_at, none_at, leaf_at, Reader, later_at, list_cells_at, pair_at, present_at, cell_at, cells_at, all_empty, rows_at}
 use Rattle.dk_levels.proofs.Begins.{behind, beside, empties}
 use Rattle.dk_levels.proofs.Again.{pads}
 use Rattle.dk_levels.proofs.Put.{length-cell_triples}
@@ -35,32 +35,32 @@ chosen false x y z h = inr (refl, h)
 
 -- these triples stood at the fronts
 pub record Takes (cs : List Column) (place : ℕ) (ts rest : List Column) : Type 0 where
-  pub whole : cs ≡ joined (from place ts) rest
+  pub whole : cs ≡ columns_joined (from place ts) rest
   pub long : length rest ≡ length cs
 
-pub record TakesEntry (cs : List Column) (place : ℕ) (p : Entry × List Column) : Type 0 where
+pub record TakesTriple (cs : List Column) (place : ℕ) (p : Triple × List Column) : Type 0 where
   pub takes : Takes cs place ((p.0 ∷ []) ∷ []) p.1
   pub within : place < length cs
 
 some_is : {A : Type 0} (x y : A) → Some x ≡ Some y → x ≡ y
 some_is x y h = cc
 
-taken_pred : (s c : Column) (cs : List Column) (place : ℕ) (p : Entry × List Column) → taken s (c ∷ cs) (suc place) ≡ Some p → (rest : List Column) × (taken s cs place ≡ Some (p.0, rest)) × (p.1 ≡ c ∷ rest)
+taken_pred : (s c : Column) (cs : List Column) (place : ℕ) (p : Triple × List Column) → taken s (c ∷ cs) (suc place) ≡ Some p → (rest : List Column) × (taken s cs place ≡ Some (p.0, rest)) × (p.1 ≡ c ∷ rest)
 taken_pred [] c cs place p h = cc
 taken_pred (e ∷ es) c cs place p h =
     let i : (e, c ∷ set cs place es) ≡ p = some_is _ _ h in
     (set cs place es, ap (λ q. Some (q.0, set cs place es)) i, sym (ap (λ q. q.1) i))
 
-pub entry_takes : (cs : List Column) (place : ℕ) (p : Entry × List Column) → first_entry cs place ≡ Some p → TakesEntry cs place p
-entry_takes [] place p h = cc
-entry_takes ([] ∷ cs) zero p h = cc
-entry_takes ((e ∷ es) ∷ cs) zero p h =
-    subst (TakesEntry ((e ∷ es) ∷ cs) zero) (some_is _ _ h) (record { takes = record { whole = refl; long = refl }; within = omega arith })
-entry_takes (c ∷ cs) (suc place) p h =
+pub triple_takes : (cs : List Column) (place : ℕ) (p : Triple × List Column) → first_triple cs place ≡ Some p → TakesTriple cs place p
+triple_takes [] place p h = cc
+triple_takes ([] ∷ cs) zero p h = cc
+triple_takes ((e ∷ es) ∷ cs) zero p h =
+    subst (TakesTriple ((e ∷ es) ∷ cs) zero) (some_is _ _ h) (record { takes = record { whole = refl; long = refl }; within = omega arith })
+triple_takes (c ∷ cs) (suc place) p h =
     let q = taken_pred (get_or cs place []) c cs place p h in
-    let t = entry_takes cs place (p.0, q.0) q.1 in
+    let t = triple_takes cs place (p.0, q.0) q.1 in
     record {
-      takes = record { whole = ap (λ x. c ∷ x) t.takes.whole ∙ ap (joined (from (suc place) ((p.0 ∷ []) ∷ []))) (sym q.2); long = ap length q.2 ∙ ap suc t.takes.long };
+      takes = record { whole = ap (λ x. c ∷ x) t.takes.whole ∙ ap (columns_joined (from (suc place) ((p.0 ∷ []) ∷ []))) (sym q.2); long = ap length q.2 ∙ ap suc t.takes.long };
       within = omega (arith, t.within);
     }
 
@@ -69,34 +69,34 @@ none_is None h = refl
 none_is (Some x) h = cc
 
 -- an entry, part by part
-entry_is : (e : Entry) (r d : ℕ) (v : Option Value) → e.repetition ≡ r → e.definition ≡ d → e.value ≡ v → (e ∷ []) ≡ one_entry r d v
-entry_is e r d v hr hd hv = ap (λ x. one_entry x e.definition e.value) hr ∙ ap (λ x. one_entry r x e.value) hd ∙ ap (one_entry r d) hv
+triple_is : (e : Triple) (r d : ℕ) (v : Option Value) → e.repetition ≡ r → e.definition ≡ d → e.value ≡ v → (e ∷ []) ≡ single_triple r d v
+triple_is e r d v hr hd hv = ap (λ x. single_triple x e.definition e.value) hr ∙ ap (λ x. single_triple r x e.value) hd ∙ ap (single_triple r d) hv
 
 beside_takes : (place n : ℕ) (a b cs between rest : List Column) → length a ≡ n → Takes cs place a between → Takes between (place + n) b rest → Takes cs place (a ++ b) rest
 beside_takes place n a b cs between rest e one more = record {
-  whole = one.whole ∙ ap (joined (from place a)) more.whole ∙ sym (beside place n a b rest e);
+  whole = one.whole ∙ ap (columns_joined (from place a)) more.whole ∙ sym (beside place n a b rest e);
   long = more.long ∙ one.long;
 }
 
-behind_takes : (place : ℕ) (a b cs between rest : List Column) → Takes cs place a between → Takes between place b rest → Takes cs place (joined a b) rest
+behind_takes : (place : ℕ) (a b cs between rest : List Column) → Takes cs place a between → Takes between place b rest → Takes cs place (columns_joined a b) rest
 behind_takes place a b cs between rest one more = record {
-  whole = one.whole ∙ ap (joined (from place a)) more.whole ∙ sym (behind place a b rest);
+  whole = one.whole ∙ ap (columns_joined (from place a)) more.whole ∙ sym (behind place a b rest);
   long = more.long ∙ one.long;
 }
 
-pub nothing_takes : (w r d place : ℕ) (cs rest : List Column) → place + w ≤ length cs → nothing_at w r d place cs ≡ Some rest → Takes cs place (replicate w (one_entry r d None)) rest
+pub nothing_takes : (w r d place : ℕ) (cs rest : List Column) → place + w ≤ length cs → nothing_at w r d place cs ≡ Some rest → Takes cs place (replicate w (single_triple r d None)) rest
 nothing_takes zero r d place cs rest room h =
     subst (Takes cs place []) (some_is _ _ h) (record { whole = sym (empties place cs (omega arith)); long = refl })
 nothing_takes (suc w) r d place cs rest room h =
     let g = bind_ok (none_at r d place cs) _ rest h in
-    let b = bind_ok (first_entry cs place) _ g.0 g.1 in
+    let b = bind_ok (first_triple cs place) _ g.0 g.1 in
     let ok = guard_ok _ _ _ b.2 in
-    let t = entry_takes cs place b.0 b.1 in
+    let t = triple_takes cs place b.0 b.1 in
     let two = both_true _ _ ok.0 in
     let three = both_true _ _ two.0 in
-    let is : (b.0.0 ∷ []) ≡ one_entry r d None = entry_is b.0.0 r d None (eqb-true _ _ three.0) (eqb-true _ _ three.1) (none_is b.0.0.value two.1) in
-    let one : Takes cs place (one_entry r d None ∷ []) g.0 = subst (λ x. Takes cs place (one_entry r d None ∷ []) x) ok.1 (subst (λ e. Takes cs place (e ∷ []) b.0.1) is t.takes) in
-    beside_takes place 1 (one_entry r d None ∷ []) (replicate w (one_entry r d None)) cs g.0 rest refl one
+    let is : (b.0.0 ∷ []) ≡ single_triple r d None = triple_is b.0.0 r d None (eqb-true _ _ three.0) (eqb-true _ _ three.1) (none_is b.0.0.value two.1) in
+    let one : Takes cs place (single_triple r d None ∷ []) g.0 = subst (λ x. Takes cs place (single_triple r d None ∷ []) x) ok.1 (subst (λ e. Takes cs place (e ∷ []) b.0.1) is t.takes) in
+    beside_takes place 1 (single_triple r d None ∷ []) (replicate w (single_triple r d None)) cs g.0 rest refl one
     (nothing_takes w r d (place + 1) g.0 rest (omega (arith, one.long)) g.2)
 
 -- a cell that was read, with the triples of a field
@@ -124,15 +124,15 @@ leaf_takes : (l : Leaf) (b : Bool) (name : List ℕ) (r d k place : ℕ) (cs : L
 leaf_takes l b name r d k place cs p h =
     let got = bind_ok (some_at r d place cs) _ p h in
     let fit = guard_ok _ _ _ got.2 in
-    let one = bind_ok (first_entry cs place) _ got.0 got.1 in
+    let one = bind_ok (first_triple cs place) _ got.0 got.1 in
     let two = bind_ok _ _ got.0 one.2 in
     let three = map_ok _ _ got.0 two.2 in
     let ok = guard_ok _ _ _ two.1 in
-    let t = entry_takes cs place one.0 one.1 in
+    let t = triple_takes cs place one.0 one.1 in
     let both = both_true _ _ ok.0 in
-    let is : (one.0.0 ∷ []) ≡ one_entry r d (Some three.0) = entry_is one.0.0 r d (Some three.0) (eqb-true _ _ both.0) (eqb-true _ _ both.1) three.1 in
-    let taken : Takes cs place (one_entry r d (Some three.0) ∷ []) two.0 = subst (λ x. Takes cs place (one_entry r d (Some three.0) ∷ []) x) ok.1 (subst (λ e. Takes cs place (e ∷ []) one.0.1) is t.takes) in
-    let all : Takes cs place (one_entry r d (Some got.0.0) ∷ []) got.0.1 = subst (λ q. Takes cs place (one_entry r d (Some q.0) ∷ []) q.1) three.2 taken in
+    let is : (one.0.0 ∷ []) ≡ single_triple r d (Some three.0) = triple_is one.0.0 r d (Some three.0) (eqb-true _ _ both.0) (eqb-true _ _ both.1) three.1 in
+    let taken : Takes cs place (single_triple r d (Some three.0) ∷ []) two.0 = subst (λ x. Takes cs place (single_triple r d (Some three.0) ∷ []) x) ok.1 (subst (λ e. Takes cs place (e ∷ []) one.0.1) is t.takes) in
+    let all : Takes cs place (single_triple r d (Some got.0.0) ∷ []) got.0.1 = subst (λ q. Takes cs place (single_triple r d (Some q.0) ∷ []) q.1) three.2 taken in
     subst (TakesCell cs (field [] false (shape.leaf l)) r d k place) fit.1 (record { fits = fit.0; takes = all })
 
 later_takes : (f : Field) (read : Reader) (d j place : ℕ) → ReadsCells read f j d j place → (n : ℕ) (cs : List Column) (p : Cells × List Column) → place + width_in f ≤ length cs
@@ -200,7 +200,7 @@ mutual
       let m = map_ok _ _ p h in
       let t = list_takes f _ _ r d k place (record { reads = λ ds q l e. cell_takes f r (d + 1) (k + 1) place ds q l e }) (record { reads = λ ds q l e. cell_takes f (k + 1) (d + 1) (k + 1) place ds q l e }) cs m.0 room m.1 in
       subst (TakesCell cs (field [] false (shape.list f)) r d k place) m.2 (record { fits = t.fits; takes = t.takes })
-  present_takes (shape.dictionary f) r d k place cs p room h =
+  present_takes (shape.map_of f) r d k place cs p room h =
       let m = map_ok _ _ p h in
       let first : Reader = pair_at (cell_at f r (d + 1) (k + 1) (place + 1)) r (d + 1) place in
       let later : Reader = pair_at (cell_at f (k + 1) (d + 1) (k + 1) (place + 1)) (k + 1) (d + 1) place in
@@ -214,7 +214,7 @@ mutual
       } in
       let w : 1 + width_in f ≡ width_in (entry f) = omega arith in
       let t = list_takes (entry f) first later r d k place one more cs m.0 (omega arith) (ap (λ n. list_cells_at first later n r d k place cs) (sym w) ∙ m.1) in
-      subst (TakesCell cs (field [] false (shape.dictionary f)) r d k place) m.2 (record { fits = t.fits; takes = t.takes })
+      subst (TakesCell cs (field [] false (shape.map_of f)) r d k place) m.2 (record { fits = t.fits; takes = t.takes })
 
   pub cell_takes : (f : Field) (r d k place : ℕ) (cs : List Column) (p : Datum × List Column) → place + width_in f ≤ length cs → cell_at f r d k place cs ≡ Some p → TakesCell cs f r d k place p
   cell_takes (field name b s) r d k place cs p room h =
@@ -255,5 +255,5 @@ rows_take fs cs rows h =
     let e = guard_ok _ _ _ m.2 in
     let rest : m.0.1 ≡ empty_columns (width_of fs) = only_empty _ e.0 ∙ ap empty_columns (t.takes.long ∙ long) in (
       subst (λ x. MatchAll x (root fs)) e.1 t.fits,
-      l.1 ∙ t.takes.whole ∙ ap (joined (later_triples m.0.0 (root fs) 0 0)) rest ∙ sym (pads (width_of fs) (later_triples m.0.0 (root fs) 0 0)) ∙ ap (triples fs) e.1,
+      l.1 ∙ t.takes.whole ∙ ap (columns_joined (later_triples m.0.0 (root fs) 0 0)) rest ∙ sym (pads (width_of fs) (later_triples m.0.0 (root fs) 0 0)) ∙ ap (triples fs) e.1,
     )

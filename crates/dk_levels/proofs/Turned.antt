@@ -2,7 +2,7 @@
 use Rattle.std.proofs.Common.{◌≡◌, ℕ, zero, suc, ◌+◌, ◌<◌, ◌≤◌, List, [], ◌∷◌, reverse, length, get_or, set, map, refl, sym, ap, ◌∙◌, arith, add-one, Vec, Global}
 use Rattle.std.proofs.lemmas.List.{reverse-reverse}
 use Rattle.dk_pqmodel.specs.Datum.{Column}
-use Rattle.dk_pqmodel.specs.ColumnView.{entry_of, columns_of}
+use Rattle.dk_pqmodel.specs.ColumnView.{triple_of, columns_of}
 use Rattle.dk_pqmodel.specs.declared.columns.Triple.{Triple}
 use Rattle.dk_levels.specs.Fronts.{fronts, front_of}
 
@@ -16,7 +16,7 @@ turned_suc : (cs : List (Vec Triple Global)) (i : ℕ) (d new : Vec Triple Globa
     → turned (suc i) (set cs i new) ≡ turned i cs
 turned_suc [] i d new h e = absurd (omega arith)
 turned_suc (c ∷ cs) zero d new h e =
-    ap (λ x. x ∷ columns_of cs) (ap (λ x. map entry_of (reverse x)) e ∙ ap (map entry_of) (reverse-reverse c.items))
+    ap (λ x. x ∷ columns_of cs) (ap (λ x. map triple_of (reverse x)) e ∙ ap (map triple_of) (reverse-reverse c.items))
 turned_suc (c ∷ cs) (suc i) d new h e = ap (λ x. front_of c ∷ x) (turned_suc cs i d new (omega arith) e)
 
 pub turned_one : (cs : List (Vec Triple Global)) (i : ℕ) (d new : Vec Triple Global) (total : List Column) → i < length cs → new.items ≡ reverse (get_or cs i d).items

@@ -3,7 +3,7 @@ use Rattle.std.specs.Prelude.{ℕ, ◌+◌, List, map, reverse, Option, option_m
 use Rattle.std.specs.declared.alloc.Global.{Global}
 use Rattle.dk_pqmodel.specs.Shape.{Field, width_in}
 use Rattle.dk_pqmodel.specs.Datum.{Column, Cells, appended}
-use Rattle.dk_pqmodel.specs.ColumnView.{entry_of}
+use Rattle.dk_pqmodel.specs.ColumnView.{triple_of}
 use Rattle.dk_pqmodel.specs.declared.columns.Triple.{Triple}
 use Rattle.dk_levels.specs.declared.levels.Repeated.{Repeated}
 use Rattle.dk_levels.specs.declared.levels.Repeated.TheVariants.{Elements, Entries}
@@ -11,7 +11,7 @@ use Rattle.dk_levels.specs.Reading.{Reader, cell_at, pair_at}
 
 -- Columns that are turned: the next triple of each stands at its end.
 abbrev pub front_of : Vec Triple Global → Column
-front_of v = map entry_of (reverse v.items)
+front_of v = map triple_of (reverse v.items)
 
 abbrev pub fronts : List (Vec Triple Global) → List Column
 fronts rest = map front_of rest

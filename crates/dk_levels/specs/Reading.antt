@@ -2,7 +2,7 @@
 use Rattle.std.specs.Prelude.{ℕ, zero, suc, ◌+◌, Bool, true, false, ◌&&◌, if◌then◌else◌, ◌==◌, List, [], ◌∷◌, length, Option, Some, None, option_map, is_none, slice_index_or, slice_set}
 use Rattle.dk_pqmodel.specs.Shape.{Leaf, Shape, Field, field, Fields, no_fields, one_field, width_at, width_in, width_of, root}
 use Rattle.dk_pqmodel.specs.Shape as shape
-use Rattle.dk_pqmodel.specs.Datum.{Value, Datum, null, atom, group, list, Cells, no_cells, one_cell, Entry, Column}
+use Rattle.dk_pqmodel.specs.Datum.{Value, Datum, null, atom, group, list, Cells, no_cells, one_cell, Triple, Column}
 use Rattle.dk_pqmodel.specs.Fits.{is_of_kind}
 
 infixl 10 ◌>>=◌
@@ -10,7 +10,7 @@ abbrev pub ◌>>=◌ : {A B : Type 0} → Option A → (A → Option B) → Opti
 None >>= f = None
 (Some x) >>= f = f x
 
-abbrev pub head_is : (Entry → Bool) → Column → Bool
+abbrev pub head_is : (Triple → Bool) → Column → Bool
 head_is p [] = false
 head_is p (e ∷ es) = p e
 
@@ -18,22 +18,22 @@ abbrev pub column_at : List Column → ℕ → Column
 column_at cs place = slice_index_or cs place []
 
 -- whether the column at the place begins with such a triple
-abbrev pub begins : (Entry → Bool) → List Column → ℕ → Bool
+abbrev pub begins : (Triple → Bool) → List Column → ℕ → Bool
 begins p cs place = head_is p (column_at cs place)
 
-abbrev pub at_definition : ℕ → Entry → Bool
+abbrev pub at_definition : ℕ → Triple → Bool
 at_definition d e = e.definition == d
 
-abbrev pub at_repetition : ℕ → Entry → Bool
+abbrev pub at_repetition : ℕ → Triple → Bool
 at_repetition r e = e.repetition == r
 
-abbrev pub taken : Column → List Column → ℕ → Option (Entry × List Column)
+abbrev pub taken : Column → List Column → ℕ → Option (Triple × List Column)
 taken [] cs place = None
 taken (e ∷ es) cs place = Some (e, slice_set cs place es)
 
 -- the first triple of the column, and the columns without it
-abbrev pub first_entry : List Column → ℕ → Option (Entry × List Column)
-first_entry cs place = taken (column_at cs place) cs place
+abbrev pub first_triple : List Column → ℕ → Option (Triple × List Column)
+first_triple cs place = taken (column_at cs place) cs place
 
 abbrev pub column_length : List Column → ℕ → ℕ
 column_length cs place = length (column_at cs place)
@@ -44,7 +44,7 @@ guarded false x = None
 
 -- a triple without a value
 abbrev pub none_at : ℕ → ℕ → ℕ → List Column → Option (List Column)
-none_at r d place cs = first_entry cs place >>= λ p. guarded (at_repetition r p.0 && at_definition d p.0 && is_none p.0.value) p.1
+none_at r d place cs = first_triple cs place >>= λ p. guarded (at_repetition r p.0 && at_definition d p.0 && is_none p.0.value) p.1
 
 -- one from each of several columns
 abbrev pub nothing_at : ℕ → ℕ → ℕ → ℕ → List Column → Option (List Column)
@@ -55,7 +55,7 @@ nothing_at (suc w) r d place cs =
 -- a triple with a value
 abbrev pub some_at : ℕ → ℕ → ℕ → List Column → Option (Value × List Column)
 some_at r d place cs =
-    first_entry cs place >>= λ p. guarded (at_repetition r p.0 && at_definition d p.0) p.1 >>= λ rest. option_map (λ v. (v, rest)) p.0.value
+    first_triple cs place >>= λ p. guarded (at_repetition r p.0 && at_definition d p.0) p.1 >>= λ rest. option_map (λ v. (v, rest)) p.0.value
 
 abbrev pub leaf_at : Leaf → ℕ → ℕ → ℕ → List Column → Option (Datum × List Column)
 leaf_at l r d place cs = some_at r d place cs >>= λ p. guarded (is_of_kind p.0 l) (atom p.0, p.1)
@@ -87,7 +87,7 @@ abbrev mutual
   present_at (shape.group fs) r d k place cs = option_map (λ p. (group p.0, p.1)) (cells_at fs r d k place cs)
   present_at (shape.list f) r d k place cs =
       option_map (λ p. (list p.0, p.1)) (list_cells_at (cell_at f r (d + 1) (k + 1) place) (cell_at f (k + 1) (d + 1) (k + 1) place) (width_in f) r d k place cs)
-  present_at (shape.dictionary f) r d k place cs =
+  present_at (shape.map_of f) r d k place cs =
       option_map (λ p. (list p.0, p.1))
       (list_cells_at (pair_at (cell_at f r (d + 1) (k + 1) (place + 1)) r (d + 1) place) (pair_at (cell_at f (k + 1) (d + 1) (k + 1) (place + 1)) (k + 1) (d + 1) place) (1 + width_in f) r d k place cs)
 

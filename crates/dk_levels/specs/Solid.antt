@@ -1,13 +1,13 @@
 -- Which fields can be read: each group has a field, so each field has a column.
 use Rattle.std.specs.Prelude.{◌<◌, ⊤}
-use Rattle.dk_pqmodel.specs.Shape.{Shape, leaf, group, list, dictionary, Field, field, Fields, no_fields, one_field, width_of, deepest_of}
+use Rattle.dk_pqmodel.specs.Shape.{Shape, leaf, group, list, map_of, Field, field, Fields, no_fields, one_field, width_of, deepest_of}
 
 abbrev mutual
   pub IsSolidShape : Shape → Type 0
   IsSolidShape (leaf l) = ⊤
   IsSolidShape (group fs) = (0 < width_of fs) × AreSolid fs
   IsSolidShape (list f) = IsSolid f
-  IsSolidShape (dictionary f) = IsSolid f
+  IsSolidShape (map_of f) = IsSolid f
 
   pub IsSolid : Field → Type 0
   IsSolid (field name nullable s) = IsSolidShape s

@@ -1,8 +1,8 @@
 //! Triples that borrow their texts from rows.
 
 ghost use Rattle.std.specs.Prelude.{◌≡◌, IfOk, map, option_map};
-ghost use Rattle.dk_pqmodel.specs.ColumnView.{columns_in, column_of as owned_column_of, entry_of as owned_entry_of, value_of as owned_value_of};
-ghost use Rattle.dk_levels.specs.Borrowed.{columns_of, entry_of, value_of};
+ghost use Rattle.dk_pqmodel.specs.ColumnView.{columns_in, column_of as owned_column_of, triple_of as owned_triple_of, value_of as owned_value_of};
+ghost use Rattle.dk_levels.specs.Borrowed.{columns_of, triple_of, value_of};
 
 use dk_pqmodel::{Columns, Triple, Value};
 use std::alloc::{AllocError, Global};
@@ -42,7 +42,7 @@ pub(crate) fn owned_columns(
 }
 
 fn owned_column(alloc: Global, column: &[BorrowedTriple<'_>]) -> Result<Vec<Triple>, AllocError>
-    ensures { IfOk result (λ v. owned_column_of v ≡ map entry_of column.now) }
+    ensures { IfOk result (λ v. owned_column_of v ≡ map triple_of column.now) }
 {
     let mut out = Vec::with_capacity(alloc, column.len())?;
     for triple in column {
@@ -52,7 +52,7 @@ fn owned_column(alloc: Global, column: &[BorrowedTriple<'_>]) -> Result<Vec<Trip
 }
 
 fn owned_triple(alloc: Global, triple: &BorrowedTriple<'_>) -> Result<Triple, AllocError>
-    ensures { IfOk result (λ t. owned_entry_of t ≡ entry_of triple.now) }
+    ensures { IfOk result (λ t. owned_triple_of t ≡ triple_of triple.now) }
 {
     Ok(Triple {
         repetition: triple.repetition,

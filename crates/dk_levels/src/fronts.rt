@@ -4,8 +4,8 @@
 //! out and leaves the others.
 
 ghost use Rattle.std.specs.Prelude.{◌≡◌, ◌+◌, ◌<◌, ◌≤◌, length, MatchOption, None, Some};
-ghost use Rattle.dk_pqmodel.specs.ColumnView.{entry_of, columns_of, value_of};
-ghost use Rattle.dk_levels.specs.Reading.{begins, at_definition, at_repetition, first_entry, none_at, nothing_at, some_at, column_length, all_empty};
+ghost use Rattle.dk_pqmodel.specs.ColumnView.{triple_of, columns_of, value_of};
+ghost use Rattle.dk_levels.specs.Reading.{begins, at_definition, at_repetition, first_triple, none_at, nothing_at, some_at, column_length, all_empty};
 ghost use Rattle.dk_levels.specs.Fronts.{fronts};
 ghost use Rattle.dk_levels.specs.Answers.{GivesMeant};
 
@@ -24,8 +24,8 @@ pub fn turn(columns: &mut [Vec<Triple>])
 /// Takes the next triple of the column.
 pub fn take_first(rest: &mut [Vec<Triple>], place: usize) -> Option<Triple>
     requires { place < length rest.old }
-    ensures { MatchOption result (first_entry (fronts rest.old) place ≡ None)
-        (λ t. first_entry (fronts rest.old) place ≡ Some (entry_of t, fronts rest.new)) }
+    ensures { MatchOption result (first_triple (fronts rest.old) place ≡ None)
+        (λ t. first_triple (fronts rest.old) place ≡ Some (triple_of t, fronts rest.new)) }
 {
     rest[place].pop()
 }

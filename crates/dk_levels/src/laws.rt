@@ -1,6 +1,6 @@
 //! Laws of triples. Each function does nothing; what it promises is the law.
 
-ghost use Rattle.dk_levels.specs.Laws.{SchemasAreReadable, CutsAreReadable, OneReading, TriplesOfAppended};
+ghost use Rattle.dk_levels.specs.Laws.{SchemasAreReadable, ProjectedIsReadable, OneReading, TriplesOfAppended};
 
 /// The fields of a schema can be read.
 pub fn schemas_are_readable()
@@ -8,8 +8,8 @@ pub fn schemas_are_readable()
 {}
 
 /// What is read of a file for a schema can be read, where the file has some of it.
-pub fn cuts_are_readable()
-    ensures { CutsAreReadable }
+pub fn projected_is_readable()
+    ensures { ProjectedIsReadable }
 {}
 
 /// At most one list of rows has given triples.

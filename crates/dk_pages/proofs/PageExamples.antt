@@ -1,7 +1,7 @@
 -- Worked pages, by computing the definitions.
 use Rattle.std.proofs.Common.{◌≡◌, pos, [], ◌∷◌, Some, None, refl}
-use Rattle.dk_pages.specs.declared.header.PageKind.TheVariants.{DataV1}
-use Rattle.dk_pages.specs.Pages.{page_at}
+use Rattle.dk_pqmodel.specs.declared.page.PageKind.TheVariants.{DataV1}
+use Rattle.dk_pqmodel.specs.Pages.{page_at}
 use Rattle.dk_pages.specs.Split.{split_of}
 
 -- a data page of four values: a header of 17 bytes and a body of 18

@@ -5,34 +5,34 @@ use Rattle.std.proofs.lemmas.Bool.{ltb-true, lt-ltb}
 use Rattle.std.proofs.lemmas.Bool.Decides.{Decides-int_eq}
 use Rattle.dk_grammar.specs.Structs.{Listed, last_under}
 use Rattle.dk_grammar.specs.PageHeaders.{Part, numbers_in, inner_under, SpellsHeader}
-use Rattle.dk_pages.specs.Headers.{numbers_of, fields_of, natural, int32, data_header, data_header_v2, dictionary_header, typed_header, page_header_of, rle}
-use Rattle.dk_pages.specs.Pages.{Page, page_with}
+use Rattle.dk_pqmodel.specs.Footer.{◌>=◌, int32, natural32}
+use Rattle.dk_pqmodel.specs.Headers.{data_header, data_header_v2, dictionary_header, inner_header, page_header_of, rle}
+use Rattle.dk_pqmodel.specs.Pages.{Page, page_with}
 use Rattle.dk_pages.specs.Spelled.{IsPageAt}
-use Rattle.dk_pages.specs.declared.header.Header.{Header}
-use Rattle.dk_pages.specs.declared.header.PageKind.{PageKind}
-use Rattle.dk_pages.specs.declared.header.PageKind.TheVariants.{DataV1, DataV2, Dictionary}
-use Rattle.dk_pages.specs.declared.numbers.Numbers.{Numbers}
+use Rattle.dk_pqmodel.specs.declared.page.PageHeader.{PageHeader}
+use Rattle.dk_pqmodel.specs.declared.page.PageKind.{PageKind}
+use Rattle.dk_pqmodel.specs.declared.page.PageKind.TheVariants.{DataV1, DataV2, Dictionary}
 use Rattle.dk_pages.proofs.PageSpellings.{none_is_not_some, some_is, some_bound, when_is}
 
 -- ---- numbers of headers
 
-pub natural_is : (o : Option ℤ) (n : ℕ) → natural o ≡ Some n → (o ≡ Some (pos n)) × (n < 2 ^ 31)
+pub natural_is : (o : Option ℤ) (n : ℕ) → (o >= natural32) ≡ Some n → (o ≡ Some (pos n)) × (n < 2 ^ 31)
 natural_is None n h = absurd (none_is_not_some n h)
 natural_is (Some (pos m)) n h = (
     let c = when_is (nat_lt m (2 ^ 31)) m n h in
     (ap (λ k. Some (pos k)) c.1, subst (λ k. k < 2 ^ 31) c.1 (ltb-true m (2 ^ 31) c.0)))
 natural_is (Some (negsuc m)) n h = absurd (none_is_not_some n h)
 
-pub is_natural : (o : Option ℤ) (n : ℕ) → o ≡ Some (pos n) → n < 2 ^ 31 → natural o ≡ Some n
-is_natural o n e small = ap natural e ∙ rw (lt-ltb n (2 ^ 31) small) refl
+pub is_natural : (o : Option ℤ) (n : ℕ) → o ≡ Some (pos n) → n < 2 ^ 31 → (o >= natural32) ≡ Some n
+is_natural o n e small = ap (λ x. x >= natural32) e ∙ rw (lt-ltb n (2 ^ 31) small) refl
 
-pub int32_some : (o : Option ℤ) (z : ℤ) → int32 o ≡ Some z → o ≡ Some z
+pub int32_some : (o : Option ℤ) (z : ℤ) → (o >= int32) ≡ Some z → o ≡ Some z
 int32_some None z h = absurd (none_is_not_some z h)
 int32_some (Some y) z h = ap Some ((when_is _ y z h).1)
 
 -- ---- headers by their type
 
-abbrev header_with : PageKind → ℕ → ℕ → ℤ → ℤ → ℤ → ℕ → ℕ → Header
+abbrev header_with : PageKind → ℕ → ℕ → ℤ → ℤ → ℤ → ℕ → ℕ → PageHeader
 header_with kind size values encoding rep_code def_code rep_bytes def_bytes =
     record { kind = kind; size = size; values = values; encoding = encoding; rep_code = rep_code; def_code = def_code; rep_bytes = rep_bytes; def_bytes = def_bytes }
 
@@ -51,141 +51,150 @@ page_of_kind kind values encoding rep_code def_code rep_bytes def_bytes body nex
 }
 
 -- the headers that follow from their first numbers
-abbrev v1_rep : ℕ → ℕ → ℤ → ℤ → ℤ → Option Header
+abbrev v1_rep : ℕ → ℕ → ℤ → ℤ → ℤ → Option PageHeader
 v1_rep size values encoding def_code rep_code = Some (header_with DataV1 size values encoding rep_code def_code 0 0)
 
-abbrev v1_def : ℕ → Numbers → ℕ → ℤ → ℤ → Option Header
-v1_def size numbers values encoding def_code = option_and_then (v1_rep size values encoding def_code) (int32 numbers.field_4)
+abbrev v1_def : ℕ → Listed ℤ → ℕ → ℤ → ℤ → Option PageHeader
+v1_def size numbers values encoding def_code = option_and_then (v1_rep size values encoding def_code) (last_under (pos 4) numbers >= int32)
 
-abbrev v1_encoding : ℕ → Numbers → ℕ → ℤ → Option Header
-v1_encoding size numbers values encoding = option_and_then (v1_def size numbers values encoding) (int32 numbers.field_3)
+abbrev v1_encoding : ℕ → Listed ℤ → ℕ → ℤ → Option PageHeader
+v1_encoding size numbers values encoding = option_and_then (v1_def size numbers values encoding) (last_under (pos 3) numbers >= int32)
 
-abbrev v1_values : ℕ → Numbers → ℕ → Option Header
-v1_values size numbers values = option_and_then (v1_encoding size numbers values) (int32 numbers.field_2)
+abbrev v1_values : ℕ → Listed ℤ → ℕ → Option PageHeader
+v1_values size numbers values = option_and_then (v1_encoding size numbers values) (last_under (pos 2) numbers >= int32)
 
-abbrev v2_rep : ℕ → ℕ → ℤ → ℕ → ℕ → Option Header
+abbrev v2_rep : ℕ → ℕ → ℤ → ℕ → ℕ → Option PageHeader
 v2_rep size values encoding def_bytes rep_bytes = Some (header_with DataV2 size values encoding rle rle rep_bytes def_bytes)
 
-abbrev v2_def : ℕ → Numbers → ℕ → ℤ → ℕ → Option Header
-v2_def size numbers values encoding def_bytes = option_and_then (v2_rep size values encoding def_bytes) (natural numbers.field_6)
+abbrev v2_def : ℕ → Listed ℤ → ℕ → ℤ → ℕ → Option PageHeader
+v2_def size numbers values encoding def_bytes = option_and_then (v2_rep size values encoding def_bytes) (last_under (pos 6) numbers >= natural32)
 
-abbrev v2_encoding : ℕ → Numbers → ℕ → ℤ → Option Header
-v2_encoding size numbers values encoding = option_and_then (v2_def size numbers values encoding) (natural numbers.field_5)
+abbrev v2_encoding : ℕ → Listed ℤ → ℕ → ℤ → Option PageHeader
+v2_encoding size numbers values encoding = option_and_then (v2_def size numbers values encoding) (last_under (pos 5) numbers >= natural32)
 
-abbrev v2_values : ℕ → Numbers → ℕ → Option Header
-v2_values size numbers values = option_and_then (v2_encoding size numbers values) (int32 numbers.field_4)
+abbrev v2_values : ℕ → Listed ℤ → ℕ → Option PageHeader
+v2_values size numbers values = option_and_then (v2_encoding size numbers values) (last_under (pos 4) numbers >= int32)
 
-abbrev entry_encoding : ℕ → ℕ → ℤ → Option Header
+abbrev entry_encoding : ℕ → ℕ → ℤ → Option PageHeader
 entry_encoding size values encoding = Some (header_with Dictionary size values encoding rle rle 0 0)
 
-abbrev entry_values : ℕ → Numbers → ℕ → Option Header
-entry_values size numbers values = option_and_then (entry_encoding size values) (int32 numbers.field_2)
+abbrev entry_values : ℕ → Listed ℤ → ℕ → Option PageHeader
+entry_values size numbers values = option_and_then (entry_encoding size values) (last_under (pos 2) numbers >= int32)
+
+abbrev v1_header : ℕ → Listed ℤ → Option PageHeader
+v1_header n numbers = data_header n (last_under (pos 1) numbers) (last_under (pos 2) numbers) (last_under (pos 3) numbers) (last_under (pos 4) numbers)
+
+abbrev v2_header : ℕ → Listed ℤ → Option PageHeader
+v2_header n numbers = data_header_v2 n (last_under (pos 1) numbers) (last_under (pos 4) numbers) (last_under (pos 5) numbers) (last_under (pos 6) numbers)
+
+abbrev entry_header : ℕ → Listed ℤ → Option PageHeader
+entry_header n numbers = dictionary_header n (last_under (pos 1) numbers) (last_under (pos 2) numbers)
 
 -- ---- what a page's header says
 
 -- a data page of the first version
 pub record SaysV1 (parts : Listed Part) (body : List ℕ) (page : Page) : Type 0 where
   pub type : last_under (pos 1) (numbers_in parts) ≡ Some (pos 0)
-  pub size : natural (last_under (pos 3) (numbers_in parts)) ≡ Some (length body)
-  pub values : natural (last_under (pos 1) (inner_under (pos 5) parts)) ≡ Some page.values
-  pub encoding : int32 (last_under (pos 2) (inner_under (pos 5) parts)) ≡ Some page.encoding
-  pub def_code : int32 (last_under (pos 3) (inner_under (pos 5) parts)) ≡ Some page.def_code
-  pub rep_code : int32 (last_under (pos 4) (inner_under (pos 5) parts)) ≡ Some page.rep_code
+  pub size : (last_under (pos 3) (numbers_in parts) >= natural32) ≡ Some (length body)
+  pub values : (last_under (pos 1) (inner_under (pos 5) parts) >= natural32) ≡ Some page.values
+  pub encoding : (last_under (pos 2) (inner_under (pos 5) parts) >= int32) ≡ Some page.encoding
+  pub def_code : (last_under (pos 3) (inner_under (pos 5) parts) >= int32) ≡ Some page.def_code
+  pub rep_code : (last_under (pos 4) (inner_under (pos 5) parts) >= int32) ≡ Some page.rep_code
   pub kind : page.kind ≡ DataV1
   pub held : page.body ≡ body
 
 -- one of the second version
 pub record SaysV2 (parts : Listed Part) (body : List ℕ) (page : Page) : Type 0 where
   pub type : last_under (pos 1) (numbers_in parts) ≡ Some (pos 3)
-  pub size : natural (last_under (pos 3) (numbers_in parts)) ≡ Some (length body)
-  pub values : natural (last_under (pos 1) (inner_under (pos 8) parts)) ≡ Some page.values
-  pub encoding : int32 (last_under (pos 4) (inner_under (pos 8) parts)) ≡ Some page.encoding
-  pub def_bytes : natural (last_under (pos 5) (inner_under (pos 8) parts)) ≡ Some page.def_bytes
-  pub rep_bytes : natural (last_under (pos 6) (inner_under (pos 8) parts)) ≡ Some page.rep_bytes
+  pub size : (last_under (pos 3) (numbers_in parts) >= natural32) ≡ Some (length body)
+  pub values : (last_under (pos 1) (inner_under (pos 8) parts) >= natural32) ≡ Some page.values
+  pub encoding : (last_under (pos 4) (inner_under (pos 8) parts) >= int32) ≡ Some page.encoding
+  pub def_bytes : (last_under (pos 5) (inner_under (pos 8) parts) >= natural32) ≡ Some page.def_bytes
+  pub rep_bytes : (last_under (pos 6) (inner_under (pos 8) parts) >= natural32) ≡ Some page.rep_bytes
   pub kind : page.kind ≡ DataV2
   pub held : page.body ≡ body
 
 -- a dictionary page
 pub record SaysDictionary (parts : Listed Part) (body : List ℕ) (page : Page) : Type 0 where
   pub type : last_under (pos 1) (numbers_in parts) ≡ Some (pos 2)
-  pub size : natural (last_under (pos 3) (numbers_in parts)) ≡ Some (length body)
-  pub values : natural (last_under (pos 1) (inner_under (pos 7) parts)) ≡ Some page.values
-  pub encoding : int32 (last_under (pos 2) (inner_under (pos 7) parts)) ≡ Some page.encoding
+  pub size : (last_under (pos 3) (numbers_in parts) >= natural32) ≡ Some (length body)
+  pub values : (last_under (pos 1) (inner_under (pos 7) parts) >= natural32) ≡ Some page.values
+  pub encoding : (last_under (pos 2) (inner_under (pos 7) parts) >= int32) ≡ Some page.encoding
   pub kind : page.kind ≡ Dictionary
   pub held : page.body ≡ body
 
 abbrev pub SaysKind : Listed Part → List ℕ → Page → Type 0
 SaysKind parts body page = SaysV1 parts body page ⊎ (SaysDictionary parts body page ⊎ SaysV2 parts body page)
 
-module _ (parts : Listed Part) (body : List ℕ) (next : ℕ) (said : Header) (size : length body ≡ said.size) where
+module _ (parts : Listed Part) (body : List ℕ) (next : ℕ) (said : PageHeader) (size : length body ≡ said.size) where
   abbrev Said : Type 0
   Said = SaysKind parts body (page_with said body next)
 
-  sized : (n : ℕ) → natural (last_under (pos 3) (numbers_in parts)) ≡ Some n → n ≡ said.size → natural (last_under (pos 3) (numbers_in parts)) ≡ Some (length body)
+  sized : (n : ℕ) → (last_under (pos 3) (numbers_in parts) >= natural32) ≡ Some n → n ≡ said.size → (last_under (pos 3) (numbers_in parts) >= natural32) ≡ Some (length body)
   sized n s e = s ∙ ap Some (e ∙ sym size)
 
-  v1_says : (n : ℕ) → last_under (pos 1) (numbers_in parts) ≡ Some (pos 0) → natural (last_under (pos 3) (numbers_in parts)) ≡ Some n
-      → data_header n (numbers_of (inner_under (pos 5) parts)) ≡ Some said → Said
+  v1_says : (n : ℕ) → last_under (pos 1) (numbers_in parts) ≡ Some (pos 0) → (last_under (pos 3) (numbers_in parts) >= natural32) ≡ Some n
+      → v1_header n (inner_under (pos 5) parts) ≡ Some said → Said
   v1_says n t s h =
-      let numbers = numbers_of (inner_under (pos 5) parts) in
-      let a = some_bound (natural numbers.field_1) (v1_values n numbers) said h in
-      let b = some_bound (int32 numbers.field_2) (v1_encoding n numbers a.0) said a.1.1 in
-      let c = some_bound (int32 numbers.field_3) (v1_def n numbers a.0 b.0) said b.1.1 in
-      let d = some_bound (int32 numbers.field_4) (v1_rep n a.0 b.0 c.0) said c.1.1 in
+      let numbers = inner_under (pos 5) parts in
+      let a = some_bound (last_under (pos 1) numbers >= natural32) (v1_values n numbers) said h in
+      let b = some_bound (last_under (pos 2) numbers >= int32) (v1_encoding n numbers a.0) said a.1.1 in
+      let c = some_bound (last_under (pos 3) numbers >= int32) (v1_def n numbers a.0 b.0) said b.1.1 in
+      let d = some_bound (last_under (pos 4) numbers >= int32) (v1_rep n a.0 b.0 c.0) said c.1.1 in
       let is : header_with DataV1 n a.0 b.0 d.0 c.0 0 0 ≡ said = some_is (header_with DataV1 n a.0 b.0 d.0 c.0 0 0) said d.1.1 in
       inl (record {
         type = t;
-        size = sized n s (ap (λ (x : Header). x.size) is);
-        values = a.1.0 ∙ ap (λ (x : Header). Some x.values) is;
-        encoding = b.1.0 ∙ ap (λ (x : Header). Some x.encoding) is;
-        def_code = c.1.0 ∙ ap (λ (x : Header). Some x.def_code) is;
-        rep_code = d.1.0 ∙ ap (λ (x : Header). Some x.rep_code) is;
-        kind = sym (ap (λ (x : Header). x.kind) is);
+        size = sized n s (ap (λ (x : PageHeader). x.size) is);
+        values = a.1.0 ∙ ap (λ (x : PageHeader). Some x.values) is;
+        encoding = b.1.0 ∙ ap (λ (x : PageHeader). Some x.encoding) is;
+        def_code = c.1.0 ∙ ap (λ (x : PageHeader). Some x.def_code) is;
+        rep_code = d.1.0 ∙ ap (λ (x : PageHeader). Some x.rep_code) is;
+        kind = sym (ap (λ (x : PageHeader). x.kind) is);
         held = refl;
       })
 
-  v2_says : (n : ℕ) → last_under (pos 1) (numbers_in parts) ≡ Some (pos 3) → natural (last_under (pos 3) (numbers_in parts)) ≡ Some n
-      → data_header_v2 n (numbers_of (inner_under (pos 8) parts)) ≡ Some said → Said
+  v2_says : (n : ℕ) → last_under (pos 1) (numbers_in parts) ≡ Some (pos 3) → (last_under (pos 3) (numbers_in parts) >= natural32) ≡ Some n
+      → v2_header n (inner_under (pos 8) parts) ≡ Some said → Said
   v2_says n t s h =
-      let numbers = numbers_of (inner_under (pos 8) parts) in
-      let a = some_bound (natural numbers.field_1) (v2_values n numbers) said h in
-      let b = some_bound (int32 numbers.field_4) (v2_encoding n numbers a.0) said a.1.1 in
-      let c = some_bound (natural numbers.field_5) (v2_def n numbers a.0 b.0) said b.1.1 in
-      let d = some_bound (natural numbers.field_6) (v2_rep n a.0 b.0 c.0) said c.1.1 in
+      let numbers = inner_under (pos 8) parts in
+      let a = some_bound (last_under (pos 1) numbers >= natural32) (v2_values n numbers) said h in
+      let b = some_bound (last_under (pos 4) numbers >= int32) (v2_encoding n numbers a.0) said a.1.1 in
+      let c = some_bound (last_under (pos 5) numbers >= natural32) (v2_def n numbers a.0 b.0) said b.1.1 in
+      let d = some_bound (last_under (pos 6) numbers >= natural32) (v2_rep n a.0 b.0 c.0) said c.1.1 in
       let is : header_with DataV2 n a.0 b.0 rle rle d.0 c.0 ≡ said = some_is (header_with DataV2 n a.0 b.0 rle rle d.0 c.0) said d.1.1 in
       inr (inr (record {
         type = t;
-        size = sized n s (ap (λ (x : Header). x.size) is);
-        values = a.1.0 ∙ ap (λ (x : Header). Some x.values) is;
-        encoding = b.1.0 ∙ ap (λ (x : Header). Some x.encoding) is;
-        def_bytes = c.1.0 ∙ ap (λ (x : Header). Some x.def_bytes) is;
-        rep_bytes = d.1.0 ∙ ap (λ (x : Header). Some x.rep_bytes) is;
-        kind = sym (ap (λ (x : Header). x.kind) is);
+        size = sized n s (ap (λ (x : PageHeader). x.size) is);
+        values = a.1.0 ∙ ap (λ (x : PageHeader). Some x.values) is;
+        encoding = b.1.0 ∙ ap (λ (x : PageHeader). Some x.encoding) is;
+        def_bytes = c.1.0 ∙ ap (λ (x : PageHeader). Some x.def_bytes) is;
+        rep_bytes = d.1.0 ∙ ap (λ (x : PageHeader). Some x.rep_bytes) is;
+        kind = sym (ap (λ (x : PageHeader). x.kind) is);
         held = refl;
       }))
 
-  dictionary_says : (n : ℕ) → last_under (pos 1) (numbers_in parts) ≡ Some (pos 2) → natural (last_under (pos 3) (numbers_in parts)) ≡ Some n
-      → dictionary_header n (numbers_of (inner_under (pos 7) parts)) ≡ Some said → Said
+  dictionary_says : (n : ℕ) → last_under (pos 1) (numbers_in parts) ≡ Some (pos 2) → (last_under (pos 3) (numbers_in parts) >= natural32) ≡ Some n
+      → entry_header n (inner_under (pos 7) parts) ≡ Some said → Said
   dictionary_says n t s h =
-      let numbers = numbers_of (inner_under (pos 7) parts) in
-      let a = some_bound (natural numbers.field_1) (entry_values n numbers) said h in
-      let b = some_bound (int32 numbers.field_2) (entry_encoding n a.0) said a.1.1 in
+      let numbers = inner_under (pos 7) parts in
+      let a = some_bound (last_under (pos 1) numbers >= natural32) (entry_values n numbers) said h in
+      let b = some_bound (last_under (pos 2) numbers >= int32) (entry_encoding n a.0) said a.1.1 in
       let is : header_with Dictionary n a.0 b.0 rle rle 0 0 ≡ said = some_is (header_with Dictionary n a.0 b.0 rle rle 0 0) said b.1.1 in
       inr (inl (record {
         type = t;
-        size = sized n s (ap (λ (x : Header). x.size) is);
-        values = a.1.0 ∙ ap (λ (x : Header). Some x.values) is;
-        encoding = b.1.0 ∙ ap (λ (x : Header). Some x.encoding) is;
-        kind = sym (ap (λ (x : Header). x.kind) is);
+        size = sized n s (ap (λ (x : PageHeader). x.size) is);
+        values = a.1.0 ∙ ap (λ (x : PageHeader). Some x.values) is;
+        encoding = b.1.0 ∙ ap (λ (x : PageHeader). Some x.encoding) is;
+        kind = sym (ap (λ (x : PageHeader). x.kind) is);
         held = refl;
       }))
 
   int_is : (x y : ℤ) → int_eq x y ≡ true → x ≡ y
   int_is x y e = (Decides-int_eq x y).0 e
 
-  by_type : (type : ℤ) (n : ℕ) → last_under (pos 1) (numbers_in parts) ≡ Some type → natural (last_under (pos 3) (numbers_in parts)) ≡ Some n → (v1 dictionary v2 : Bool) → int_eq type (pos 0) ≡ v1
+  by_type : (type : ℤ) (n : ℕ) → last_under (pos 1) (numbers_in parts) ≡ Some type → (last_under (pos 3) (numbers_in parts) >= natural32) ≡ Some n → (v1 dictionary v2 : Bool) → int_eq type (pos 0) ≡ v1
       → int_eq type (pos 2) ≡ dictionary → int_eq type (pos 3) ≡ v2
-      → cond v1 (data_header n (numbers_of (inner_under (pos 5) parts))) (cond dictionary (dictionary_header n (numbers_of (inner_under (pos 7) parts))) (cond v2 (data_header_v2 n (numbers_of (inner_under (pos 8) parts))) None))
+      → cond v1 (v1_header n (inner_under (pos 5) parts)) (cond dictionary (entry_header n (inner_under (pos 7) parts)) (cond v2 (v2_header n (inner_under (pos 8) parts)) None))
       ≡ Some said
       → Said
   by_type type n t s true dictionary v2 e f g is = v1_says n (t ∙ ap Some (int_is type (pos 0) e)) s is
@@ -193,11 +202,14 @@ module _ (parts : Listed Part) (body : List ℕ) (next : ℕ) (said : Header) (s
   by_type type n t s false false true e f g is = v2_says n (t ∙ ap Some (int_is type (pos 3) g)) s is
   by_type type n t s false false false e f g is = absurd (none_is_not_some said is)
 
-  says_kind : page_header_of (fields_of parts) ≡ Some said → Said
+  says_kind : page_header_of parts ≡ Some said → Said
   says_kind h =
-      let fields = fields_of parts in
-      let a = some_bound fields.own.field_1 (λ type. option_and_then (λ n. typed_header type n fields) (natural fields.own.field_3)) said h in
-      let b = some_bound (natural fields.own.field_3) (λ n. typed_header a.0 n fields) said a.1.1 in
+      let own = numbers_in parts in
+      let v1 = inner_under (pos 5) parts in
+      let entries = inner_under (pos 7) parts in
+      let v2 = inner_under (pos 8) parts in
+      let a = some_bound (last_under (pos 1) own) (λ type. last_under (pos 3) own >= natural32 >= λ n. inner_header type n v1 entries v2) said h in
+      let b = some_bound (last_under (pos 3) own >= natural32) (λ n. inner_header a.0 n v1 entries v2) said a.1.1 in
       by_type a.0 b.0 a.1.0 b.1.0 (int_eq a.0 (pos 0)) (int_eq a.0 (pos 2)) (int_eq a.0 (pos 3)) refl refl refl b.1.1
 
 -- a page that stands at a place is of one of the three kinds
@@ -208,7 +220,7 @@ page_kind bytes place page at =
 -- ---- and what says so is such a page
 
 module _ (bytes front header body more : List ℕ) (parts : Listed Part) (whole : bytes ≡ front ++ (header ++ (body ++ more))) (spelled : SpellsHeader header parts) where
-  stands : (said : Header) → page_header_of (fields_of parts) ≡ Some said → length body ≡ said.size → IsPageAt bytes (length front) (page_with said body (length (front ++ (header ++ body))))
+  stands : (said : PageHeader) → page_header_of parts ≡ Some said → length body ≡ said.size → IsPageAt bytes (length front) (page_with said body (length (front ++ (header ++ body))))
   stands said means size = record {
     front = front;
     header = header;
@@ -224,8 +236,8 @@ module _ (bytes front header body more : List ℕ) (parts : Listed Part) (whole 
     is = refl;
   }
 
-  typed : (type : ℤ) (size : ℕ) (said : Header) → last_under (pos 1) (numbers_in parts) ≡ Some type → natural (last_under (pos 3) (numbers_in parts)) ≡ Some size
-      → typed_header type size (fields_of parts) ≡ Some said → page_header_of (fields_of parts) ≡ Some said
+  typed : (type : ℤ) (size : ℕ) (said : PageHeader) → last_under (pos 1) (numbers_in parts) ≡ Some type → (last_under (pos 3) (numbers_in parts) >= natural32) ≡ Some size
+      → inner_header type size (inner_under (pos 5) parts) (inner_under (pos 7) parts) (inner_under (pos 8) parts) ≡ Some said → page_header_of parts ≡ Some said
   typed type size said t s is = rw (t, s) is
 
   pub v1_stands : (values : ℕ) (encoding rep_code def_code : ℤ)

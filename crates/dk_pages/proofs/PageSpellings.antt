@@ -6,10 +6,10 @@ use Rattle.std.proofs.lemmas.Bool.{leb-true, le-leb}
 use Rattle.dk_grammar.specs.Thrift.{Front}
 use Rattle.dk_grammar.specs.Structs.{Listed, struct_at}
 use Rattle.dk_grammar.specs.PageHeaders.{Part, part_meaning, SpellsHeader, SpellsPart}
-use Rattle.dk_pages.specs.Headers.{fields_of, page_header_of, page_header_in, header_at}
-use Rattle.dk_pages.specs.Pages.{Page, page_with, page_from, page_within, page_at}
+use Rattle.dk_pqmodel.specs.Headers.{page_header_of, page_header_in, header_at}
+use Rattle.dk_pqmodel.specs.Pages.{Page, page_with, page_from, page_within, page_at}
 use Rattle.dk_pages.specs.Spelled.{IsPageAt}
-use Rattle.dk_pages.specs.declared.header.Header.{Header}
+use Rattle.dk_pqmodel.specs.declared.page.PageHeader.{PageHeader}
 use Rattle.dk_grammar.proofs.StructSpellings.{fields_long, headers}
 
 pub none_is_not_some : {A : Type 0} (x : A) → None ≡ Some x → ⊥
@@ -30,10 +30,10 @@ pub when_is : {A : Type 0} (b : Bool) (x y : A) → cond b (Some x) None ≡ Som
 when_is true x y h = (refl, some_is x y h)
 when_is false x y h = absurd (none_is_not_some y h)
 
-header_found : (r : Front (Listed Part)) (x : Header × List ℕ) → page_header_in r ≡ Some x → (parts : Listed Part) × ((r ≡ Ok (parts, x.1)) × (page_header_of (fields_of parts) ≡ Some x.0))
+header_found : (r : Front (Listed Part)) (x : PageHeader × List ℕ) → page_header_in r ≡ Some x → (parts : Listed Part) × ((r ≡ Ok (parts, x.1)) × (page_header_of parts ≡ Some x.0))
 header_found (Err flaw) x h = absurd (none_is_not_some x h)
 header_found (Ok y) x h =
-    let z = map_bound (page_header_of (fields_of y.0)) (λ header. (header, y.1)) x h in
+    let z = map_bound (page_header_of y.0) (λ header. (header, y.1)) x h in
     (y.0, (ap (λ more. Ok (y.0, more.1)) z.1.1, z.1.0 ∙ ap (λ more. Some more.0) z.1.1))
 
 sub_is : (m n : ℕ) → (m + n) - m ≡ n
@@ -44,7 +44,7 @@ middle : (front body more : List ℕ) (n : ℕ) → length body ≡ n → slice_
 middle front body more n e = rw (sub_is (length front) n, drop-append_seam, ← e, take-append_seam) refl
 
 -- the page that is cut, where the bytes are known by their parts
-within : (front body more bytes : List ℕ) (start : ℕ) (said : Header) → bytes ≡ front ++ (body ++ more) → start ≡ length front → length body ≡ said.size
+within : (front body more bytes : List ℕ) (start : ℕ) (said : PageHeader) → bytes ≡ front ++ (body ++ more) → start ≡ length front → length body ≡ said.size
     → page_within bytes start said ≡ Some (page_with said body (length (front ++ body)))
 within front body more bytes start said e s size =
     let l : length (front ++ (body ++ more)) ≡ length front + length (body ++ more) = length-append front (body ++ more) in
@@ -55,7 +55,7 @@ within front body more bytes start said e s size =
     rw (e, s, le-leb (length front + said.size) (length (front ++ (body ++ more))) room)
     (ap (λ part. Some (page_with said part (length front + said.size))) (middle front body more said.size size) ∙ ap (λ place. Some (page_with said body place)) next)
 
-page_spelled : (front header body more : List ℕ) (parts : Listed Part) (said : Header) → SpellsHeader header parts → page_header_of (fields_of parts) ≡ Some said → length body ≡ said.size
+page_spelled : (front header body more : List ℕ) (parts : Listed Part) (said : PageHeader) → SpellsHeader header parts → page_header_of parts ≡ Some said → length body ≡ said.size
     → page_at (front ++ (header ++ (body ++ more))) (length front) ≡ Some (page_with said body (length (front ++ (header ++ body))))
 page_spelled front header body more parts said s m size =
     let whole : front ++ (header ++ (body ++ more)) ≡ (front ++ header) ++ (body ++ more) = sym (append_assoc front header (body ++ more)) in

@@ -4,7 +4,7 @@ use Rattle.dk_pqmodel.specs.declared.fault.PqFault.{PqFault}
 use Rattle.dk_pqmodel.specs.declared.fault.PqFault.TheVariants.{Broken, OutOfMemory}
 use Rattle.dk_pages.specs.declared.dictionary.Physical.{Physical}
 use Rattle.dk_pages.specs.declared.dictionary.Physical.TheVariants.{Int32, Int64, Bytes}
-use Rattle.dk_pages.specs.Pages.{Page}
+use Rattle.dk_pqmodel.specs.Pages.{Page}
 use Rattle.dk_pages.specs.Split.{cut, sized}
 
 -- numbers have four and eight bytes, texts stand behind the number of their bytes

@@ -1,14 +1,13 @@
--- Page headers (Apache Parquet, parquet.thrift, PageHeader), from the fields of their structs by id.
-use Rattle.std.specs.Prelude.{ℕ, ◌^◌, ◌&&◌, nat_lt, int_le, if◌then◌else◌, ℤ, pos, negsuc, Option, Some, None, option_map, unwrap_or, Ok, Err, List}
+-- The fields of page headers as the code keeps them: of each struct the last number under each id.
+use Rattle.std.specs.Prelude.{ℕ, ℤ, pos, Option, Some, None, unwrap_or}
 use Rattle.std.specs.Ordering.{int_eq}
-use Rattle.dk_grammar.specs.Thrift.{Front}
-use Rattle.dk_grammar.specs.PageHeaders.{Part, number, inner, part_meaning, numbers_in, inner_under}
-use Rattle.dk_grammar.specs.Structs.{Listed, struct_at, last_under, when, first_of_two}
-use Rattle.dk_pqmodel.specs.Footer.{◌>=◌}
+use Rattle.dk_grammar.specs.PageHeaders.{Part, number, inner, numbers_in, inner_under}
+use Rattle.dk_grammar.specs.Structs.{Listed, last_under, when, first_of_two}
+use Rattle.dk_pqmodel.specs.Footer.{◌>=◌, natural32}
+use Rattle.dk_pqmodel.specs.Headers.{data_header, data_header_v2, dictionary_header, typed_header}
+use Rattle.dk_pqmodel.specs.declared.page.PageHeader.{PageHeader}
 use Rattle.dk_pages.specs.declared.numbers.Numbers.{Numbers}
 use Rattle.dk_pages.specs.declared.fields.Fields.{Fields}
-use Rattle.dk_pages.specs.declared.header.Header.{Header}
-use Rattle.dk_pages.specs.declared.header.PageKind.TheVariants.{DataV1, DataV2, Dictionary}
 
 -- numbers by the ids of their fields
 abbrev pub numbers_of : Listed ℤ → Numbers
@@ -56,54 +55,19 @@ with_part id None f = f
 with_part id (Some (number z)) f = record f { own = with_number id (Some z) f.own }
 with_part id (Some (inner numbers)) f = with_inner id (numbers_of numbers) f
 
--- a number of 32 bits
-abbrev pub int32 : Option ℤ → Option ℤ
-int32 None = None
-int32 (Some z) = when (int_le (negsuc 2147483647) z && int_le z (pos 2147483647)) z
+-- the header that the fields say
+abbrev pub data_header_in : ℕ → Numbers → Option PageHeader
+data_header_in size n = data_header size n.field_1 n.field_2 n.field_3 n.field_4
 
--- a count or a size: a number of 32 bits that isn't below zero
-abbrev pub natural : Option ℤ → Option ℕ
-natural None = None
-natural (Some (pos n)) = when (nat_lt n (2 ^ 31)) n
-natural (Some (negsuc n)) = None
+abbrev pub dictionary_header_in : ℕ → Numbers → Option PageHeader
+dictionary_header_in size n = dictionary_header size n.field_1 n.field_2
 
--- the encoding of levels in pages that have no code for it, RLE
-abbrev pub rle : ℤ
-rle = pos 3
+abbrev pub data_header_v2_in : ℕ → Numbers → Option PageHeader
+data_header_v2_in size n = data_header_v2 size n.field_1 n.field_4 n.field_5 n.field_6
 
--- DataPageHeader: values, encoding, the codes of definition and repetition levels
-abbrev pub data_header : ℕ → Numbers → Option Header
-data_header size numbers =
-    natural numbers.field_1 >= λ values. int32 numbers.field_2 >= λ encoding. int32 numbers.field_3 >= λ def_code. int32 numbers.field_4 >= λ rep_code.
-    Some (record { kind = DataV1; size = size; values = values; encoding = encoding; rep_code = rep_code; def_code = def_code; rep_bytes = 0; def_bytes = 0 })
+abbrev pub typed_header_in : ℤ → ℕ → Fields → Option PageHeader
+typed_header_in type size fields =
+    typed_header type (data_header_in size fields.data_page) (dictionary_header_in size fields.dictionary_page) (data_header_v2_in size fields.data_page_v2)
 
--- DictionaryPageHeader: entries, encoding
-abbrev pub dictionary_header : ℕ → Numbers → Option Header
-dictionary_header size numbers =
-    natural numbers.field_1 >= λ values. int32 numbers.field_2 >= λ encoding.
-    Some (record { kind = Dictionary; size = size; values = values; encoding = encoding; rep_code = rle; def_code = rle; rep_bytes = 0; def_bytes = 0 })
-
--- DataPageHeaderV2: values, encoding, the bytes of definition and repetition levels
-abbrev pub data_header_v2 : ℕ → Numbers → Option Header
-data_header_v2 size numbers =
-    natural numbers.field_1 >= λ values. int32 numbers.field_4 >= λ encoding. natural numbers.field_5 >= λ def_bytes. natural numbers.field_6 >= λ rep_bytes.
-    Some (record { kind = DataV2; size = size; values = values; encoding = encoding; rep_code = rle; def_code = rle; rep_bytes = rep_bytes; def_bytes = def_bytes })
-
--- the page's type picks the inner header; other types than these three are no pages of a column
-abbrev pub typed_header : ℤ → ℕ → Fields → Option Header
-typed_header type size fields =
-    if int_eq type (pos 0) then data_header size fields.data_page else
-    if int_eq type (pos 2) then dictionary_header size fields.dictionary_page else
-    if int_eq type (pos 3) then data_header_v2 size fields.data_page_v2 else None
-
--- PageHeader: type, the size of the body in the file
-abbrev pub page_header_of : Fields → Option Header
-page_header_of fields = fields.own.field_1 >= λ type. natural fields.own.field_3 >= λ size. typed_header type size fields
-
-abbrev pub page_header_in : Front (Listed Part) → Option (Header × List ℕ)
-page_header_in (Err flaw) = None
-page_header_in (Ok x) = option_map (λ header. (header, x.1)) (page_header_of (fields_of x.0))
-
--- the page header that the bytes begin with, and the bytes behind it
-abbrev pub header_at : List ℕ → Option (Header × List ℕ)
-header_at bytes = page_header_in (struct_at part_meaning bytes)
+abbrev pub header_in : Fields → Option PageHeader
+header_in fields = fields.own.field_1 >= λ type. fields.own.field_3 >= natural32 >= λ size. typed_header_in type size fields

@@ -2,9 +2,9 @@
 use Rattle.std.specs.Prelude.{◌≡◌, ℕ, Some, List, ◌++◌, length}
 use Rattle.dk_grammar.specs.Structs.{Listed}
 use Rattle.dk_grammar.specs.PageHeaders.{Part, SpellsHeader}
-use Rattle.dk_pages.specs.Headers.{fields_of, page_header_of}
-use Rattle.dk_pages.specs.Pages.{Page, page_with}
-use Rattle.dk_pages.specs.declared.header.Header.{Header}
+use Rattle.dk_pqmodel.specs.Headers.{page_header_of}
+use Rattle.dk_pqmodel.specs.Pages.{Page, page_with}
+use Rattle.dk_pqmodel.specs.declared.page.PageHeader.{PageHeader}
 
 -- A page stands at a place: there a header is spelled, and right behind it lies a body of the size that it says.
 pub record IsPageAt (bytes : List ℕ) (place : ℕ) (page : Page) : Type 0 where
@@ -16,7 +16,7 @@ pub record IsPageAt (bytes : List ℕ) (place : ℕ) (page : Page) : Type 0 wher
   pub begins : length front ≡ place
   pub parts : Listed Part
   pub spelled : SpellsHeader header parts
-  pub said : Header
-  pub means : page_header_of (fields_of parts) ≡ Some said
+  pub said : PageHeader
+  pub means : page_header_of parts ≡ Some said
   pub size : length body ≡ said.size
   pub is : page ≡ page_with said body (length (front ++ (header ++ body)))

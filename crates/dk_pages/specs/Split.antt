@@ -1,10 +1,10 @@
 -- The parts of a page's body: repetition levels, definition levels, values.
 use Rattle.std.specs.Prelude.{ℕ, ◌==◌, nat_le, if◌then◌else◌, Option, Some, None, option_and_then, List, [], length, take, drop}
 use Rattle.dk_grammar.specs.Digits.{number_of}
-use Rattle.dk_pages.specs.declared.header.PageKind.{PageKind}
-use Rattle.dk_pages.specs.declared.header.PageKind.TheVariants.{DataV1, DataV2, Dictionary}
+use Rattle.dk_pqmodel.specs.declared.page.PageKind.{PageKind}
+use Rattle.dk_pqmodel.specs.declared.page.PageKind.TheVariants.{DataV1, DataV2, Dictionary}
 use Rattle.dk_pages.specs.declared.split.Split.{Split}
-use Rattle.dk_pages.specs.Pages.{Page}
+use Rattle.dk_pqmodel.specs.Pages.{Page}
 
 pub record Parts : Type 0 where
   pub rep : List ℕ

@@ -1,49 +1,27 @@
-//! What a page header says, from its fields.
+//! Page headers, from the fields of their structs.
 
 ghost use Rattle.std.specs.Prelude.{◌≡◌};
-ghost use Rattle.dk_pages.specs.Headers.{data_header, data_header_v2, dictionary_header, page_header_of, int32, natural, typed_header};
+ghost use Rattle.dk_pqmodel.specs.Footer.{int32, natural32};
+ghost use Rattle.dk_pages.specs.Headers.{data_header_in, data_header_v2_in, dictionary_header_in, header_in, typed_header_in};
 
 use crate::fields::Fields;
 use crate::numbers::Numbers;
-
-/// The pages of a column.
-#[derive(Clone, Copy)]
-pub enum PageKind {
-    /// Values, with their levels behind the length of each.
-    DataV1,
-    /// Values, with their levels, whose lengths stand in the header.
-    DataV2,
-    /// The values that the column's data pages name by their places.
-    Dictionary,
-}
-
-/// What a page header says. The size is that of the body in the file.
-#[derive(Clone, Copy)]
-pub(crate) struct Header {
-    pub kind: PageKind,
-    pub size: u32,
-    pub values: u32,
-    pub encoding: i32,
-    pub rep_code: i32,
-    pub def_code: i32,
-    pub rep_bytes: u32,
-    pub def_bytes: u32,
-}
+use dk_pqmodel::{PageHeader, PageKind};
 
 /// The code of RLE, the one encoding of levels in pages whose headers name none.
 const RLE: i32 = 3;
 
 /// The header of these fields; `None` where one that it needs isn't there, or isn't a number that it takes.
-pub(crate) fn header_of(fields: &Fields) -> Option<Header>
-    ensures { result ≡ page_header_of fields.now }
+pub(crate) fn header_of(fields: &Fields) -> Option<PageHeader>
+    ensures { result ≡ header_in fields.now }
 {
     let page_type = fields.own.field_1?;
-    let size = natural(fields.own.field_3)?;
+    let size = natural32(fields.own.field_3?)?;
     typed_header(page_type, size, fields)
 }
 
-fn typed_header(page_type: i64, size: u32, fields: &Fields) -> Option<Header>
-    ensures { result ≡ typed_header page_type size fields.now }
+fn typed_header(page_type: i64, size: u32, fields: &Fields) -> Option<PageHeader>
+    ensures { result ≡ typed_header_in page_type size fields.now }
 {
     match page_type {
         0 => data_header(size, &fields.data_page),
@@ -53,14 +31,14 @@ fn typed_header(page_type: i64, size: u32, fields: &Fields) -> Option<Header>
     }
 }
 
-fn data_header(size: u32, inner: &Numbers) -> Option<Header>
-    ensures { result ≡ data_header size inner.now }
+fn data_header(size: u32, inner: &Numbers) -> Option<PageHeader>
+    ensures { result ≡ data_header_in size inner.now }
 {
-    let values = natural(inner.field_1)?;
-    let encoding = int32(inner.field_2)?;
-    let def_code = int32(inner.field_3)?;
-    let rep_code = int32(inner.field_4)?;
-    Some(Header {
+    let values = natural32(inner.field_1?)?;
+    let encoding = int32(inner.field_2?)?;
+    let def_code = int32(inner.field_3?)?;
+    let rep_code = int32(inner.field_4?)?;
+    Some(PageHeader {
         kind: PageKind::DataV1,
         size,
         values,
@@ -72,12 +50,12 @@ fn data_header(size: u32, inner: &Numbers) -> Option<Header>
     })
 }
 
-fn dictionary_header(size: u32, inner: &Numbers) -> Option<Header>
-    ensures { result ≡ dictionary_header size inner.now }
+fn dictionary_header(size: u32, inner: &Numbers) -> Option<PageHeader>
+    ensures { result ≡ dictionary_header_in size inner.now }
 {
-    let values = natural(inner.field_1)?;
-    let encoding = int32(inner.field_2)?;
-    Some(Header {
+    let values = natural32(inner.field_1?)?;
+    let encoding = int32(inner.field_2?)?;
+    Some(PageHeader {
         kind: PageKind::Dictionary,
         size,
         values,
@@ -89,14 +67,14 @@ fn dictionary_header(size: u32, inner: &Numbers) -> Option<Header>
     })
 }
 
-fn data_header_v2(size: u32, inner: &Numbers) -> Option<Header>
-    ensures { result ≡ data_header_v2 size inner.now }
+fn data_header_v2(size: u32, inner: &Numbers) -> Option<PageHeader>
+    ensures { result ≡ data_header_v2_in size inner.now }
 {
-    let values = natural(inner.field_1)?;
-    let encoding = int32(inner.field_4)?;
-    let def_bytes = natural(inner.field_5)?;
-    let rep_bytes = natural(inner.field_6)?;
-    Some(Header {
+    let values = natural32(inner.field_1?)?;
+    let encoding = int32(inner.field_4?)?;
+    let def_bytes = natural32(inner.field_5?)?;
+    let rep_bytes = natural32(inner.field_6?)?;
+    Some(PageHeader {
         kind: PageKind::DataV2,
         size,
         values,
@@ -109,24 +87,22 @@ fn data_header_v2(size: u32, inner: &Numbers) -> Option<Header>
 }
 
 /// A number of 32 bits.
-fn int32(number: Option<i64>) -> Option<i32>
+fn int32(number: i64) -> Option<i32>
     ensures { result ≡ int32 number }
 {
-    let value = number?;
-    if -2_147_483_648 <= value && value <= 2_147_483_647 {
-        Some(value as i32)
+    if -2_147_483_648 <= number && number <= 2_147_483_647 {
+        Some(number as i32)
     } else {
         None
     }
 }
 
 /// A count or a size: a number of 32 bits that isn't below zero.
-fn natural(number: Option<i64>) -> Option<u32>
-    ensures { result ≡ natural number }
+fn natural32(number: i64) -> Option<u32>
+    ensures { result ≡ natural32 number }
 {
-    let value = number?;
-    if 0 <= value && value <= 2_147_483_647 {
-        Some(value as u32)
+    if 0 <= number && number <= 2_147_483_647 {
+        Some(number as u32)
     } else {
         None
     }

@@ -3,7 +3,7 @@
 ghost use Rattle.std.specs.Prelude.{◌≡◌, ℕ, List, Some};
 ghost use Rattle.dk_grammar.specs.Grammar.{ReadsBy};
 ghost use Rattle.dk_grammar.specs.PageHeaders.{part_meaning, SpellsHeader};
-ghost use Rattle.dk_pages.specs.Pages.{Page, page_at};
+ghost use Rattle.dk_pqmodel.specs.Pages.{Page, page_at};
 ghost use Rattle.dk_pages.specs.Spelled.{IsPageAt};
 ghost use Rattle.dk_grammar.specs.Structs.{struct_at};
 

@@ -11,6 +11,5 @@ mod page;
 mod split;
 
 pub use dictionary::{Dictionary, Physical};
-pub use header::PageKind;
 pub use page::{PageView, next_page};
 pub use split::Split;

@@ -1,12 +1,13 @@
 //! The page that stands at a place of the file.
 
 ghost use Rattle.std.specs.Prelude.{◌≡◌, IfErr, IfOk, option_map};
-ghost use Rattle.dk_pages.specs.Pages.{AnswersOrBroken, Page, page_at, page_of, page_within};
+ghost use Rattle.dk_pqmodel.specs.Pages.{Page, page_at, page_within};
+ghost use Rattle.dk_pages.specs.Pages.{AnswersOrBroken, page_of};
 ghost use Rattle.dk_pages.specs.Spelled.{IsPageAt};
 
 use crate::fields::read_fields;
-use crate::header::{Header, PageKind, header_of};
-use dk_pqmodel::PqFault;
+use crate::header::header_of;
+use dk_pqmodel::{PageHeader, PageKind, PqFault};
 use dk_thrift::Reader;
 
 /// A page of a column, whose body is a part of the file's bytes (Apache Parquet, "Data Pages").
@@ -58,7 +59,7 @@ fn page<'a>(bytes: &'a [u8], at: usize) -> Option<PageView<'a>>
 }
 
 /// The page whose body begins at the place `start`.
-fn page_within<'a>(bytes: &'a [u8], start: usize, header: &Header) -> Option<PageView<'a>>
+fn page_within<'a>(bytes: &'a [u8], start: usize, header: &PageHeader) -> Option<PageView<'a>>
     ensures { option_map page_of result ≡ page_within bytes.now start header.now }
 {
     let next = start.checked_add(header.size as usize)?;

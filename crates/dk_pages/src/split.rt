@@ -5,9 +5,8 @@ ghost use Rattle.dk_grammar.specs.Digits.{number_of};
 ghost use Rattle.dk_pages.specs.Pages.{page_of};
 ghost use Rattle.dk_pages.specs.Split.{cut, levels, parts_of, sized, split_of, split_v1, split_v2};
 
-use crate::header::PageKind;
 use crate::page::PageView;
-use dk_pqmodel::PqFault;
+use dk_pqmodel::{PageKind, PqFault};
 
 /// The parts of a page's body, without the lengths that stand between them.
 #[derive(Clone, Copy)]

@@ -1,7 +1,7 @@
 //! Calls on pages.
 
 use anyhow::{Context, Result};
-use dk_pages::{Dictionary, PageKind, PageView, Physical, next_page};
+use dk_pages::{Dictionary, PageView, Physical, next_page};
 use std::alloc::{AllocError, Global};
 
 /// What the header of the page at a place says, where its body ends, and how long it is.

@@ -4,7 +4,7 @@ use Rattle.std.specs.Cmp.Lexicographic.{pointwise}
 use Rattle.std.specs.List.{list_any}
 use Rattle.indexmap.specs.IndexMap.{IndexMap, get}
 use Rattle.indexmap.specs.Layout.{hash_map}
-use Rattle.dk_pqmodel.specs.Laid.{Path}
+use Rattle.dk_pqmodel.specs.Projection.{Path}
 use Rattle.dk_pqmodel.specs.FileSchema.{FileNode, FileNodes, one_node, node_name}
 use Rattle.dk_pqmodel.specs.Footer.{◌>=◌, Chunk, ChunkFields, chunk_of, Element, each_of, is_path, has_path, has_name, is_new_each, are_new}
 use Rattle.dk_pqmeta.specs.Trees.{each_node}

@@ -3,7 +3,7 @@ use Rattle.std.proofs.Common.{◌≡◌, ℕ, ℤ, pos, Option, Some, None, opti
 use Rattle.std.proofs.lemmas.List.{append-nil}
 use Rattle.dk_grammar.specs.Structs.{Listed, under}
 use Rattle.dk_grammar.specs.Lists.{Either, held, other, others_in}
-use Rattle.dk_pqmodel.specs.Laid.{Path}
+use Rattle.dk_pqmodel.specs.Projection.{Path}
 use Rattle.dk_pqmodel.specs.Footer.{MetaFields, meta_fields, ChunkFields, chunk_fields, GroupFields, group_fields, ElementFields, element_fields, file_fields}
 use Rattle.dk_pqmeta.specs.Kept.{with_meta, with_chunk, with_group, with_element, with_file}
 use Rattle.dk_pqmeta.proofs.Helds.{held_last, held_stays, others_more, others_same, number_last, number_stays}

@@ -3,7 +3,7 @@ use Rattle.std.specs.Prelude.{ℕ, ℤ, pos, Option, Some, None, option_map, Lis
 use Rattle.std.specs.Ordering.{int_eq}
 use Rattle.dk_grammar.specs.Structs.{when, first_of_two}
 use Rattle.dk_grammar.specs.Lists.{Either, held, other}
-use Rattle.dk_pqmodel.specs.Laid.{Path}
+use Rattle.dk_pqmodel.specs.Projection.{Path}
 use Rattle.dk_pqmodel.specs.Footer.{MetaFields, ChunkFields, GroupFields, ElementFields, FileFields}
 use Rattle.dk_pqmeta.specs.declared.metadata.ColumnMetaData.{ColumnMetaData}
 use Rattle.dk_pqmeta.specs.declared.chunk.ColumnChunk.{ColumnChunk}

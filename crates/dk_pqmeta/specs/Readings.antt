@@ -4,7 +4,7 @@ use Rattle.std.specs.Str.{is_utf8}
 use Rattle.dk_grammar.specs.Thrift.{Front, ◌>>=◌, bad_at, binary_at}
 use Rattle.dk_grammar.specs.Structs.{Meaning, struct_at, number_meaning}
 use Rattle.dk_grammar.specs.Lists.{Either, list_of, held_or, turned}
-use Rattle.dk_pqmodel.specs.Laid.{Path}
+use Rattle.dk_pqmodel.specs.Projection.{Path}
 use Rattle.dk_pqmodel.specs.Footer.{MetaFields, meta_fields, ChunkFields, chunk_fields, GroupFields, group_fields, ElementFields, element_fields, FileFields, file_fields}
 
 -- a name is UTF-8

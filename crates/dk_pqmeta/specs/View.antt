@@ -1,7 +1,7 @@
 -- What a footer is as plain data, apart from where it lies in memory.
 use Rattle.std.specs.Prelude.{◌≡◌, Option, Some, None, option_map, option_and_then, if◌then◌else◌, Result, Ok, Err, List, [], ◌∷◌, ◌++◌, map, string_bytes, String, Vec}
 use Rattle.std.specs.Global.{Global}
-use Rattle.dk_pqmodel.specs.Laid.{Path}
+use Rattle.dk_pqmodel.specs.Projection.{Path}
 use Rattle.dk_pqmodel.specs.FileSchema.{FileNode, file_node, FileNodes, no_nodes, one_node}
 use Rattle.dk_pqmodel.specs.Footer as plain
 use Rattle.dk_pqmeta.specs.declared.footer.Footer.{Footer}

@@ -41,7 +41,7 @@ impl Record for ColumnMetaData {
     ghost use Rattle.std.specs.Prelude.{ℤ};
     ghost use Rattle.dk_grammar.specs.Lists.{Either};
     ghost use Rattle.dk_pqmodel.specs.Footer.{MetaFields, meta_fields};
-    ghost use Rattle.dk_pqmodel.specs.Laid.{Path};
+    ghost use Rattle.dk_pqmodel.specs.Projection.{Path};
     ghost use Rattle.dk_pqmeta.specs.Readings.{meta_meaning};
     ghost use Rattle.dk_pqmeta.specs.Kept.{meta_kept};
 

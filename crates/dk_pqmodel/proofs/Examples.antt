@@ -42,7 +42,7 @@ the_bytes = refl
 
 -- a map m of numbers, and a text n
 abbrev others : Fields
-others = one_field (field (109 ∷ []) true (shape.dictionary (field [] true (shape.leaf shape.int64)))) (one_field (field (110 ∷ []) true (shape.leaf shape.chars)) no_fields)
+others = one_field (field (109 ∷ []) true (shape.map_of (field [] true (shape.leaf shape.int64)))) (one_field (field (110 ∷ []) true (shape.leaf shape.chars)) no_fields)
 
 abbrev pair : ℕ → Datum → Datum
 pair k v = group (one_cell (atom (chars (k ∷ []))) (one_cell v no_cells))

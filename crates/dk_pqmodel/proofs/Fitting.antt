@@ -1,6 +1,6 @@
 -- Rows that fit have the form of their schema.
 use Rattle.std.proofs.Common.{◌≡◌, Bool, true, refl}
-use Rattle.dk_pqmodel.specs.Shape.{Leaf, int32, int64, Field, Fields, field, no_fields, one_field, leaf, dictionary, entry, root}
+use Rattle.dk_pqmodel.specs.Shape.{Leaf, int32, int64, Field, Fields, field, no_fields, one_field, leaf, map_of, entry, root}
 use Rattle.dk_pqmodel.specs.Shape as shape
 use Rattle.dk_pqmodel.specs.Datum.{Value, flag, int, chars, Datum, null, atom, group, list, Cells, no_cells, one_cell}
 use Rattle.dk_pqmodel.specs.Fits.{is_of_kind, fits_leaf, CellBy, EachBy, AllBy, Fit, AreRowsOf}
@@ -12,13 +12,13 @@ module _ (p q : Value → Leaf → Bool) (weaker : (v : Value) (l : Leaf) → p 
     by_cell (atom v) (field name b (leaf l)) h = weaker v l h
     by_cell (atom v) (field name b (shape.group fs)) h = absurd h
     by_cell (atom v) (field name b (shape.list f)) h = absurd h
-    by_cell (atom v) (field name b (dictionary f)) h = absurd h
+    by_cell (atom v) (field name b (map_of f)) h = absurd h
     by_cell (group cs) (field name b (shape.group fs)) h = by_each cs fs h
     by_cell (group cs) (field name b (leaf l)) h = absurd h
     by_cell (group cs) (field name b (shape.list f)) h = absurd h
-    by_cell (group cs) (field name b (dictionary f)) h = absurd h
+    by_cell (group cs) (field name b (map_of f)) h = absurd h
     by_cell (list cs) (field name b (shape.list f)) h = by_all cs f h
-    by_cell (list cs) (field name b (dictionary f)) h = by_all cs (entry f) h
+    by_cell (list cs) (field name b (map_of f)) h = by_all cs (entry f) h
     by_cell (list cs) (field name b (leaf l)) h = absurd h
     by_cell (list cs) (field name b (shape.group fs)) h = absurd h
 

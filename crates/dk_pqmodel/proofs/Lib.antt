@@ -1,5 +1,5 @@
 mod Examples
 pub mod Fitting
-mod LaidExamples
+mod ProjectionExamples
 pub mod NodeViews
 mod Testing

@@ -27,7 +27,7 @@ shape_of-Chars = search (rules, the_lemmas)
 pub shape_of-List : (b : Box Node Global) → shape_of (node.List b) ≡ shape.list (field_of b.value)
 shape_of-List b = search (rules, the_lemmas)
 
-pub shape_of-Map : (b : Box Node Global) → shape_of (Map b) ≡ shape.dictionary (field_of b.value)
+pub shape_of-Map : (b : Box Node Global) → shape_of (Map b) ≡ shape.map_of (field_of b.value)
 shape_of-Map b = search (rules, the_lemmas)
 
 fields_of-drop_suc : (ns : List Node) (i : ℕ) (n : Node) → i < length ns → n ≡ get_or ns i n → fields_of (drop i ns) ≡ one_field (field_of n) (fields_of (drop (suc i) ns))

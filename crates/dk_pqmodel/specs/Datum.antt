@@ -19,16 +19,16 @@ mutual
     one_cell : Datum → Cells → Cells
 
 -- an entry of a column
-pub record Entry : Type 0 where
+pub record Triple : Type 0 where
   pub repetition : ℕ
   pub definition : ℕ
   pub value : Option Value
 
 abbrev pub Column : Type 0
-Column = List Entry
+Column = List Triple
 
-abbrev pub one_entry : ℕ → ℕ → Option Value → Column
-one_entry r d v = record { repetition = r; definition = d; value = v } ∷ []
+abbrev pub single_triple : ℕ → ℕ → Option Value → Column
+single_triple r d v = record { repetition = r; definition = d; value = v } ∷ []
 
 -- these cells, and those behind them
 abbrev pub appended : Cells → Cells → Cells

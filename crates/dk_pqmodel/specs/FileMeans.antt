@@ -3,7 +3,7 @@ use Rattle.std.specs.Prelude.{◌≡◌, ◌+◌, ◌⊎◌, ℕ, Bool, if◌the
 use Rattle.dk_pqmodel.specs.Shape.{Fields, chars}
 use Rattle.dk_pqmodel.specs.Datum.{Value, Cells, no_cells, one_cell, Column, appended}
 use Rattle.dk_pqmodel.specs.Fits.{AreTriplesOf}
-use Rattle.dk_pqmodel.specs.Laid.{Plan, missing, value, members, elements, entries, Plans, no_plans, one_plan, laid, cuts_of, rows_widened, first_misfit}
+use Rattle.dk_pqmodel.specs.Projection.{Plan, missing, value, members, elements, entries, Plans, no_plans, one_plan, projection, projected_fields, rows_widened, first_misfit}
 use Rattle.dk_pqmodel.specs.Footer.{Chunk, RowGroup, Footer}
 use Rattle.dk_pqmodel.specs.FooterBytes.{IsFramed, SpellsFooter}
 use Rattle.dk_pqmodel.specs.FilePages.{ColumnAt, physical_type, AreData, IsFirst}
@@ -64,7 +64,7 @@ rows_in (one_cell row rows) = 1 + rows_in rows
 pub record HasRows (before : List ℕ) (plans : Plans) (group : RowGroup) (rows : Cells) : Type 0 where
   pub columns : List Column
   pub held : HasColumns before group (columns_of plans 0 0) columns
-  pub triples : AreTriplesOf (cuts_of plans) rows columns
+  pub triples : AreTriplesOf (projected_fields plans) rows columns
   pub count : rows_in rows ≡ group.rows
 
 abbrev pub HaveRows : List ℕ → Plans → List RowGroup → List Cells → Type 0
@@ -86,9 +86,9 @@ pub record FileMeans (wanted : Fields) (bytes : List ℕ) (rows : Cells) : Type 
   pub spelled : SpellsFooter part footer
   pub fitting : first_misfit wanted footer.fields ≡ None
   pub shares : List Cells
-  pub held : HaveRows before (laid wanted footer.fields) footer.groups shares
+  pub held : HaveRows before (projection wanted footer.fields) footer.groups shares
   pub count : rows_in (all_rows shares) ≡ footer.rows
-  pub widened : rows_widened (laid wanted footer.fields) (all_rows shares) ≡ Some rows
+  pub widened : rows_widened (projection wanted footer.fields) (all_rows shares) ≡ Some rows
 
 -- the law that a file means at most one list of rows
 abbrev pub MeansOneList : Type 0

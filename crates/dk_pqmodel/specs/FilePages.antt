@@ -8,9 +8,9 @@ use Rattle.dk_grammar.specs.Plain as plain
 use Rattle.dk_grammar.specs.Runs.{AreFirst}
 use Rattle.dk_pqmodel.specs.Shape.{Leaf, flag, int32, int64, chars}
 use Rattle.dk_pqmodel.specs.Datum as cell
-use Rattle.dk_pqmodel.specs.Datum.{Value, Entry, Column}
+use Rattle.dk_pqmodel.specs.Datum.{Value, Triple, Column}
 use Rattle.dk_pqmodel.specs.Footer.{int32 as fits32}
-use Rattle.dk_pqmodel.specs.Laid.{Path}
+use Rattle.dk_pqmodel.specs.Projection.{Path}
 
 -- a column of the file: its path, what it holds, and its greatest levels
 pub record ColumnAt : Type 0 where
@@ -106,7 +106,7 @@ HoldValues column dictionary code values bytes =
     ⊎ (((code ≡ pos 2) ⊎ (code ≡ pos 8)) × FromDictionary column.kind dictionary values bytes)
 
 -- a triple has a value exactly where its definition level is the greatest
-abbrev pub IsFull : ℕ → Entry → Type 0
+abbrev pub IsFull : ℕ → Triple → Type 0
 IsFull greatest e = e.definition ≤ greatest × (IsTrue (is_some e.value) ↔ (e.definition ≡ greatest))
 
 abbrev pub AreFull : ColumnAt → Column → Type 0

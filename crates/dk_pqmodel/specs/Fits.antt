@@ -1,6 +1,6 @@
 -- When rows fit a schema.
 use Rattle.std.specs.Prelude.{◌≡◌, List, ℤ, Bool, true, false, IsTrue, ⊤, pos, negsuc, nat_lt, ◌^◌}
-use Rattle.dk_pqmodel.specs.Shape.{Leaf, flag, int32, int64, chars, Shape, leaf, group, list, dictionary, Field, Fields, no_fields, one_field, entry, root, shape_in, is_nullable}
+use Rattle.dk_pqmodel.specs.Shape.{Leaf, flag, int32, int64, chars, Shape, leaf, group, list, map_of, Field, Fields, no_fields, one_field, entry, root, shape_in, is_nullable}
 use Rattle.dk_pqmodel.specs.Datum as cell
 use Rattle.dk_pqmodel.specs.Datum.{Value, Datum, null, atom, Cells, no_cells, one_cell, Column}
 use Rattle.dk_pqmodel.specs.Triples.{triples}
@@ -35,7 +35,7 @@ OnGroup s P = ⊥
 
 abbrev pub OnList : Shape → (Field → Type 0) → Type 0
 OnList (list f) P = P f
-OnList (dictionary f) P = P (entry f)
+OnList (map_of f) P = P (entry f)
 OnList s P = ⊥
 
 -- A cell has the form of its field, and each value in it passes the test at its leaf.

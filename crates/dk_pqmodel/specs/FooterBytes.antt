@@ -5,7 +5,7 @@ use Rattle.dk_grammar.specs.Grammar.{SpellsBinary}
 use Rattle.dk_grammar.specs.Structs.{SpellsStruct, SpellsNumberField}
 use Rattle.dk_grammar.specs.Lists.{SpellsListOf, SpellsHeldOr, SpelledBy}
 use Rattle.dk_grammar.specs.Plain.{little}
-use Rattle.dk_pqmodel.specs.Laid.{Path}
+use Rattle.dk_pqmodel.specs.Projection.{Path}
 use Rattle.dk_pqmodel.specs.Footer.{Footer, MetaFields, meta_fields, ChunkFields, chunk_fields, GroupFields, group_fields, ElementFields, element_fields, FileFields, file_fields, MeansFooter}
 
 -- a name is UTF-8

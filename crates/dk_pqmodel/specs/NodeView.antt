@@ -18,7 +18,7 @@ shape_step NodeKind-F.Int64 = shape.leaf shape.int64
 shape_step NodeKind-F.Chars = shape.leaf shape.chars
 shape_step (NodeKind-F.Group v) = shape.group (fields_of_list v.items)
 shape_step (NodeKind-F.List b) = shape.list b.value
-shape_step (NodeKind-F.Map b) = shape.dictionary b.value
+shape_step (NodeKind-F.Map b) = shape.map_of b.value
 
 abbrev pub field_step : Node-F Shape Field → Field
 field_step n = field (string_bytes n.name) n.nullable n.kind

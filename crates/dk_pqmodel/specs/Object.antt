@@ -2,7 +2,7 @@
 use Rattle.std.specs.Prelude.{ℕ, ℤ, pos, negsuc, List, []}
 use Rattle.serde_json.specs.Data.{Num, unsigned, negative, Data, boolean, number, string, array, object, Items, no_items, item, Members, no_members, put}
 use Rattle.serde_json.specs.Data as json
-use Rattle.dk_pqmodel.specs.Shape.{Shape, leaf, dictionary, Field, Fields, no_fields, one_field, key, root, name_in, shape_in, fields_at, element_at}
+use Rattle.dk_pqmodel.specs.Shape.{Shape, leaf, map_of, Field, Fields, no_fields, one_field, key, root, name_in, shape_in, fields_at, element_at}
 use Rattle.dk_pqmodel.specs.Shape as shape
 use Rattle.dk_pqmodel.specs.Datum.{Value, flag, int, chars, Datum, null, atom, group, list, Cells, no_cells, one_cell}
 
@@ -32,11 +32,11 @@ abbrev pub value_at : Shape → Field
 value_at (leaf l) = key
 value_at (shape.group fs) = key
 value_at (shape.list f) = key
-value_at (dictionary f) = f
+value_at (map_of f) = f
 
 -- a list is an array, a map an object
 abbrev pub list_or_map : Shape → Items → Members → Data
-list_or_map (dictionary f) ds ms = object ms
+list_or_map (map_of f) ds ms = object ms
 list_or_map s ds ms = array ds
 
 -- A group is an object of its fields that aren't null.

@@ -1,7 +1,7 @@
 -- Which fields make a schema.
 use Rattle.std.specs.Prelude.{ℕ, ◌+◌, ◌≤◌, max, Bool, true, false, ◌&&◌, ◌||◌, not, IsTrue, List}
 use Rattle.std.specs.Str.{bytes_eq}
-use Rattle.dk_pqmodel.specs.Shape.{Shape, leaf, group, list, dictionary, Field, field, Fields, no_fields, one_field, name_in}
+use Rattle.dk_pqmodel.specs.Shape.{Shape, leaf, group, list, map_of, Field, field, Fields, no_fields, one_field, name_in}
 
 abbrev pub has_fields : Fields → Bool
 has_fields no_fields = false
@@ -23,7 +23,7 @@ abbrev mutual
   is_sound_shape (leaf l) = true
   is_sound_shape (group fs) = has_fields fs && are_distinct fs && are_sound fs
   is_sound_shape (list f) = is_sound f
-  is_sound_shape (dictionary f) = is_sound f
+  is_sound_shape (map_of f) = is_sound f
 
   pub is_sound : Field → Bool
   is_sound (field name nullable s) = is_sound_shape s
@@ -38,7 +38,7 @@ abbrev mutual
   levels_at (leaf l) = 0
   levels_at (group fs) = levels_of fs
   levels_at (list f) = levels_in f
-  levels_at (dictionary f) = levels_in f
+  levels_at (map_of f) = levels_in f
 
   pub levels_in : Field → ℕ
   levels_in (field name nullable s) = 1 + levels_at s

@@ -12,7 +12,7 @@ mutual
     leaf : Leaf → Shape
     group : Fields → Shape
     list : Field → Shape
-    dictionary : Field → Shape
+    map_of : Field → Shape
 
   -- its name, whether it may be null, and its kind
   pub data Field : Type 0 where
@@ -47,13 +47,13 @@ abbrev pub fields_at : Shape → Fields
 fields_at (leaf l) = no_fields
 fields_at (group fs) = fs
 fields_at (list f) = no_fields
-fields_at (dictionary f) = no_fields
+fields_at (map_of f) = no_fields
 
 abbrev pub element_at : Shape → Field
 element_at (leaf l) = key
 element_at (group fs) = key
 element_at (list f) = f
-element_at (dictionary f) = entry f
+element_at (map_of f) = entry f
 
 -- how many columns there are
 abbrev mutual
@@ -61,7 +61,7 @@ abbrev mutual
   width_at (leaf l) = 1
   width_at (group fs) = width_of fs
   width_at (list f) = width_in f
-  width_at (dictionary f) = 1 + width_in f
+  width_at (map_of f) = 1 + width_in f
 
   pub width_in : Field → ℕ
   width_in (field name nullable s) = width_at s
@@ -76,7 +76,7 @@ abbrev mutual
   deepest_at (leaf l) = 0
   deepest_at (group fs) = deepest_of fs
   deepest_at (list f) = 1 + deepest_in f
-  deepest_at (dictionary f) = 1 + deepest_in f
+  deepest_at (map_of f) = 1 + deepest_in f
 
   pub deepest_in : Field → ℕ
   deepest_in (field name nullable s) = (if nullable then 1 else 0) + deepest_at s

@@ -1,6 +1,6 @@
 -- How much rows weigh, and how many bytes their file has at most.
 use Rattle.std.specs.Prelude.{ℕ, ◌+◌, ◌*◌, length, sum_by, Option, Some, None}
-use Rattle.dk_pqmodel.specs.Shape.{Shape, leaf, dictionary, Field, field, Fields, no_fields, one_field}
+use Rattle.dk_pqmodel.specs.Shape.{Shape, leaf, map_of, Field, field, Fields, no_fields, one_field}
 use Rattle.dk_pqmodel.specs.Shape as shape
 use Rattle.dk_pqmodel.specs.Datum.{Value, flag, int, chars, Datum, null, atom, group, list, Cells, no_cells, one_cell, Column}
 use Rattle.dk_pqmodel.specs.Triples.{triples}
@@ -44,7 +44,7 @@ abbrev mutual
   node_bytes_at around (leaf l) = 0
   node_bytes_at around (shape.group fs) = node_bytes_of around fs
   node_bytes_at around (shape.list f) = node_bytes_in around f
-  node_bytes_at around (dictionary f) = node_bytes_in around f
+  node_bytes_at around (map_of f) = node_bytes_in around f
 
   pub node_bytes_in : ℕ → Field → ℕ
   node_bytes_in around (field name nullable s) = 1024 + 2 * (around + length name) + node_bytes_at (around + length name) s

@@ -1,7 +1,7 @@
 //! Columns of triples: what the Parquet format keeps of rows (Dremel's repetition and definition levels).
 
 ghost use Rattle.std.specs.Prelude.{◌≡◌, IfOk, map};
-ghost use Rattle.dk_pqmodel.specs.ColumnView.{columns_of, columns_in, column_of, entry_of, value_of};
+ghost use Rattle.dk_pqmodel.specs.ColumnView.{columns_of, columns_in, column_of, triple_of, value_of};
 
 use std::alloc::{AllocError, Global};
 
@@ -45,7 +45,7 @@ impl Columns {
 }
 
 fn copy_column(alloc: Global, column: &[Triple]) -> Result<Vec<Triple>, AllocError>
-    ensures { IfOk result (λ v. column_of v ≡ map entry_of column.now) }
+    ensures { IfOk result (λ v. column_of v ≡ map triple_of column.now) }
 {
     let mut out = Vec::with_capacity(alloc, column.len())?;
     for triple in column {
@@ -55,7 +55,7 @@ fn copy_column(alloc: Global, column: &[Triple]) -> Result<Vec<Triple>, AllocErr
 }
 
 fn copy_triple(triple: &Triple) -> Result<Triple, AllocError>
-    ensures { IfOk result (λ t. entry_of t ≡ entry_of triple.now) }
+    ensures { IfOk result (λ t. triple_of t ≡ triple_of triple.now) }
 {
     let value = match &triple.value {
         Some(value) => Some(copy_value(value)?),

@@ -7,17 +7,18 @@ use Rattle.dk_pqmodel.specs.Datum.{Cells}
 use Rattle.dk_pqmodel.specs.Footer.{Footer, RowGroup}
 use Rattle.dk_pqmodel.specs.FooterBytes.{IsFramed, HasFooter}
 use Rattle.dk_pqmodel.specs.FileMeans.{HaveRows, FileMeans, all_rows, rows_in}
-use Rattle.dk_pqmodel.specs.Laid.{Plans, laid, first_misfit}
+use Rattle.dk_pqmodel.specs.Projection.{Plans, projection, first_misfit}
 use Rattle.dk_pqmodel.specs.declared.fault.PqFault.{PqFault}
 use Rattle.dk_pqmodel.specs.declared.fault.PqFault.TheVariants.{NotParquet, Shape, Compressed, Encoding, Broken, OutOfMemory}
 use Rattle.dk_pqmeta.specs.View.{group_view}
 use Rattle.dk_pqmeta.specs.declared.footer.RowGroup as code
 use Rattle.dk_pqmeta.proofs.Footers.{one_footer}
 use Rattle.dk_pqmeta.proofs.Framing.{framed_once}
-use Rattle.dk_pqread.specs.Faults.{IsOpen, IsRefused, columns_read}
+use Rattle.dk_pqmodel.specs.Faults.{IsOpen, IsRefused, columns_read}
 use Rattle.dk_pqread.specs.Meanings.{Refuses}
-use Rattle.dk_pqread.specs.RowsMeaning.{GroupsMean, IsBroken, Reads}
-use Rattle.dk_pqread.specs.Scans.{first_compressed, first_unread}
+use Rattle.dk_pqmodel.specs.Reads.{IsBroken, Reads}
+use Rattle.dk_pqread.specs.RowsMeaning.{GroupsMean}
+use Rattle.dk_pqmodel.specs.Scans.{first_compressed, first_unread}
 use Rattle.dk_pqread.proofs.Before.{front_is}
 use Rattle.dk_pqread.specs.Counts.{counts_agree}
 use Rattle.dk_pqread.proofs.CountsAgree.{rows_more, counts_hold}
@@ -80,17 +81,17 @@ module _ (wanted : Fields) (bytes before : List ℕ) (footer : Footer) (clear : 
   }
 
   -- what the file means is what its groups mean, and so many rows as the footer says
-  groups_mean : (rows : Cells) → FileMeans wanted bytes rows → GroupsMean before (laid wanted footer.fields) footer.groups rows × (rows_in rows ≡ footer.rows)
+  groups_mean : (rows : Cells) → FileMeans wanted bytes rows → GroupsMean before (projection wanted footer.fields) footer.groups rows × (rows_in rows ≡ footer.rows)
   groups_mean rows m =
       let same : m.footer ≡ footer = one_footer bytes m.footer footer (m.before, m.part, m.framed, m.spelled) has in
       let front : m.before ≡ before = before_once bytes m.before m.part before clear.part m.framed clear.framed in
-      let all : GroupsMean m.before (laid wanted m.footer.fields) m.footer.groups rows = record { shares = m.shares; held = m.held; widened = m.widened } in
-      let count : rows_in rows ≡ m.footer.rows = groups_count m.before (laid wanted m.footer.fields) m.footer.groups rows all ∙ m.count in (
-        subst (λ b. GroupsMean b (laid wanted footer.fields) footer.groups rows) front (subst (λ (f : Footer). GroupsMean m.before (laid wanted f.fields) f.groups rows) same all),
+      let all : GroupsMean m.before (projection wanted m.footer.fields) m.footer.groups rows = record { shares = m.shares; held = m.held; widened = m.widened } in
+      let count : rows_in rows ≡ m.footer.rows = groups_count m.before (projection wanted m.footer.fields) m.footer.groups rows all ∙ m.count in (
+        subst (λ b. GroupsMean b (projection wanted footer.fields) footer.groups rows) front (subst (λ (f : Footer). GroupsMean m.before (projection wanted f.fields) f.groups rows) same all),
         count ∙ ap (λ (f : Footer). f.rows) same,
       )
 
-  pub file_refused : (fault : PqFault) → Refuses fault (GroupsMean before (laid wanted footer.fields) footer.groups) → Reads wanted bytes (Err fault)
+  pub file_refused : (fault : PqFault) → Refuses fault (GroupsMean before (projection wanted footer.fields) footer.groups) → Reads wanted bytes (Err fault)
   file_refused Broken h = broken (λ rows m. h rows (groups_mean rows m).0)
   file_refused OutOfMemory h = tt
   file_refused NotParquet h = absurd h
@@ -104,12 +105,12 @@ module _ (wanted : Fields) (bytes before : List ℕ) (footer : Footer) (clear : 
       broken
       (λ rows m. (
       let mean = groups_mean rows m in
-      let count = sym (groups_count before (laid wanted footer.fields) footer.groups rows mean.0) ∙ mean.1 in
-      let agree = counts_hold before (laid wanted footer.fields) footer.groups mean.0.shares footer.rows (groups_distinct clear.part footer clear.spelled) mean.0.held count in
+      let count = sym (groups_count before (projection wanted footer.fields) footer.groups rows mean.0) ∙ mean.1 in
+      let agree = counts_hold before (projection wanted footer.fields) footer.groups mean.0.shares footer.rows (groups_distinct clear.part footer clear.spelled) mean.0.held count in
       let never : false ≡ true = sym differ ∙ agree in
       cc))
 
-  module _ (rows : Cells) (all : GroupsMean before (laid wanted footer.fields) footer.groups rows) where
+  module _ (rows : Cells) (all : GroupsMean before (projection wanted footer.fields) footer.groups rows) where
     pub file_found : rows_in rows ≡ footer.rows → FileMeans wanted bytes rows
     file_found count = record {
       before = before;
@@ -120,7 +121,7 @@ module _ (wanted : Fields) (bytes before : List ℕ) (footer : Footer) (clear : 
       fitting = clear.fitting;
       shares = all.shares;
       held = all.held;
-      count = sym (groups_count before (laid wanted footer.fields) footer.groups rows all) ∙ count;
+      count = sym (groups_count before (projection wanted footer.fields) footer.groups rows all) ∙ count;
       widened = all.widened;
     }
 
@@ -130,8 +131,8 @@ module _ (wanted : Fields) (bytes before : List ℕ) (footer : Footer) (clear : 
         (λ others m. (
         let mean = groups_mean others m in
         differs
-        (groups_count before (laid wanted footer.fields) footer.groups rows all ∙ same_count before (laid wanted footer.fields) footer.groups all.shares mean.0.shares all.held mean.0.held
-        ∙ sym (groups_count before (laid wanted footer.fields) footer.groups others mean.0) ∙ mean.1)))
+        (groups_count before (projection wanted footer.fields) footer.groups rows all ∙ same_count before (projection wanted footer.fields) footer.groups all.shares mean.0.shares all.held mean.0.held
+        ∙ sym (groups_count before (projection wanted footer.fields) footer.groups others mean.0) ∙ mean.1)))
 
 -- ---- the same under other names
 

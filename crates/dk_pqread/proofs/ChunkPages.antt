@@ -11,15 +11,15 @@ use Rattle.dk_pqmodel.specs.Footer.{Chunk}
 use Rattle.dk_pqmodel.specs.FileMeans.{HasPages, HasTriples}
 use Rattle.dk_pqmodel.specs.FilePages.{ColumnAt, physical_type, AreData, IsFirst}
 use Rattle.dk_pqmodel.specs.declared.fault.PqFault.{PqFault}
-use Rattle.dk_pages.specs.Pages.{Page, page_at}
+use Rattle.dk_pqmodel.specs.Pages.{Page, page_at}
 use Rattle.dk_pages.specs.Spelled.{IsPageAt}
-use Rattle.dk_pages.specs.declared.header.PageKind.{PageKind}
-use Rattle.dk_pages.specs.declared.header.PageKind.TheVariants.{DataV1, DataV2, Dictionary}
+use Rattle.dk_pqmodel.specs.declared.page.PageKind.{PageKind}
+use Rattle.dk_pqmodel.specs.declared.page.PageKind.TheVariants.{DataV1, DataV2, Dictionary}
 use Rattle.dk_pages.proofs.PageSpellings.{page_only, page_found}
 use Rattle.dk_pqread.specs.ChunkMeaning.{EntriesHold, DataFrom, is_dictionary}
 use Rattle.dk_pqread.specs.Meanings.{Refuses, Finds}
 use Rattle.dk_pqread.specs.PageMeaning.{PageHolds, AddsTriples, is_data}
-use Rattle.dk_pqread.specs.Scans.{first_place}
+use Rattle.dk_pqmodel.specs.Scans.{first_place}
 use Rattle.dk_pqread.proofs.DataPages.{data_found, data_given}
 use Rattle.dk_pqread.proofs.DictionaryPages.{dictionary_found, dictionary_given, entries_once}
 use Rattle.dk_pqread.proofs.Finding.{refuses_by, finds_as}

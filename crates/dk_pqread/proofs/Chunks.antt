@@ -8,7 +8,7 @@ use Rattle.dk_pqmodel.specs.Footer.{is_path}
 use Rattle.dk_pqmeta.specs.View.{chunk_view, column_view}
 use Rattle.dk_pqmeta.specs.declared.footer.Chunk as code
 use Rattle.dk_pqread.specs.PlanView.{path_of}
-use Rattle.dk_pqread.specs.Scans.{chunk_at}
+use Rattle.dk_pqmodel.specs.Scans.{chunk_at}
 
 paths_same : (xs ys : List (String Global)) → pointwise string_eq xs ys ≡ is_path (path_of xs) (path_of ys)
 paths_same [] [] = refl

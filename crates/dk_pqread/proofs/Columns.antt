@@ -1,7 +1,7 @@
 -- The columns of plans, one plan after another.
 use Rattle.std.proofs.Common.{◌≡◌, ℕ, ◌+◌, ◌<◌, ◌≤◌, max, List, [], ◌++◌, length, get_or, drop, sym, ap, ◌∙◌, arith}
 use Rattle.std.proofs.lemmas.List.{append_assoc, append-nil, drop_all}
-use Rattle.dk_pqmodel.specs.Laid.{Plans}
+use Rattle.dk_pqmodel.specs.Projection.{Plans}
 use Rattle.dk_pqmodel.specs.FilePages.{ColumnAt}
 use Rattle.dk_pqmodel.specs.FileMeans.{columns_in, columns_of}
 use Rattle.dk_pqread.specs.Depth.{depth_in, depth_of}

@@ -4,11 +4,11 @@ use Rattle.std.specs.List.{All, AllByRecursion, flat_map}
 use Rattle.std.proofs.lemmas.Bool.{eq-eqb, le-leb, le-ltb, ne_eqb}
 use Rattle.std.proofs.lemmas.List.{length-append}
 use Rattle.std.proofs.lemmas.List.Elements.{recursion_from_All}
-use Rattle.dk_pqmodel.specs.Datum.{Value, Cells, no_cells, one_cell, Entry, Column, appended}
+use Rattle.dk_pqmodel.specs.Datum.{Value, Cells, no_cells, one_cell, Triple, Column, appended}
 use Rattle.dk_pqmodel.specs.FileMeans.{HasPages, HasTriples, HasColumn, HasColumns, HasRows, HaveRows, all_rows, columns_of, rows_in}
 use Rattle.dk_pqmodel.specs.FilePages.{ColumnAt, AreData, IsData}
 use Rattle.dk_pqmodel.specs.Footer.{Chunk, RowGroup}
-use Rattle.dk_pqmodel.specs.Laid.{Plans, cuts_of}
+use Rattle.dk_pqmodel.specs.Projection.{Plans, projected_fields}
 use Rattle.dk_pqread.specs.Counts.{may_have, chunk_agrees, group_agrees, groups_agree, have_rows, counts_agree}
 use Rattle.dk_pqread.proofs.DistinctPaths.{HasDistinctPaths}
 use Rattle.dk_pqread.proofs.Groups.{chunk_only}
@@ -42,8 +42,8 @@ none_starts [] h = refl
 none_starts (e ∷ es) h = absurd (omega (arith, h))
 
 module _ (column : ColumnAt) (flat : column.rep ≡ 0) where
-  full_starts : (es : Column) → All (λ (e : Entry). e.repetition ≤ column.rep) es → starts es ≡ length es
-  full_starts es h = starts_all es (recursion_from_All (λ (e : Entry). e.repetition ≤ 0) es (subst (λ n. All (λ (e : Entry). e.repetition ≤ n) es) flat h))
+  full_starts : (es : Column) → All (λ (e : Triple). e.repetition ≤ column.rep) es → starts es ≡ length es
+  full_starts es h = starts_all es (recursion_from_All (λ (e : Triple). e.repetition ≤ 0) es (subst (λ n. All (λ (e : Triple). e.repetition ≤ n) es) flat h))
 
   data_starts : (dictionary : Option (List Value)) (bytes : List ℕ) (es : Column) → IsData column dictionary bytes es → starts es ≡ length es
   data_starts dictionary bytes es (inl page) = full_starts es page.triples_held.full.1
@@ -88,7 +88,7 @@ module _ (before : List ℕ) where
     groups_hold (g ∷ groups) [] distinct h = absurd h
     groups_hold (g ∷ groups) (x ∷ shares) distinct h =
         let has : HasRows before plans g x = h.0 in
-        let each : Each g.rows has.columns = subst (λ n. Each n has.columns) has.count (triples_start (cuts_of plans) x has.columns has.triples) in
+        let each : Each g.rows has.columns = subst (λ n. Each n has.columns) has.count (triples_start (projected_fields plans) x has.columns has.triples) in
         rw (group_holds g (columns_of plans 0 0) has.columns distinct.0 has.held each, groups_hold groups shares distinct.1 h.1) refl
 
     rows_hold : (groups : List RowGroup) (shares : List Cells) (rows : ℕ) → HaveRows before plans groups shares → rows_in (all_rows shares) ≡ rows → have_rows rows groups ≡ true

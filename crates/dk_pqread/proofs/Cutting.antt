@@ -1,7 +1,7 @@
 -- The part of the file's schema that is read, node by node.
 use Rattle.std.proofs.Common.{◌≡◌, ℕ, ◌+◌, ◌<◌, ◌≤◌, Option, Some, None, List, [], ◌∷◌, ◌++◌, length, get_or, drop, string_bytes, refl, sym, ap, ◌∙◌}
 use Rattle.std.proofs.lemmas.List.{drop_all}
-use Rattle.dk_pqmodel.specs.Laid.{cut_of, cuts_of, field_then, first_leaf, first_leaf_of, Path}
+use Rattle.dk_pqmodel.specs.Projection.{projected_field, projected_fields, field_then, first_leaf, first_leaf_of, Path}
 use Rattle.dk_pqmodel.specs.Shape.{Field, Fields, no_fields}
 use Rattle.dk_pqmodel.specs.NodeView.{field_of, fields_of, shape_of}
 use Rattle.dk_pqmodel.specs.declared.node.Node.{Node}
@@ -18,12 +18,12 @@ pub none_added : (fs : Fields) → AddsField fs None fs
 none_added fs = record { added = λ more. refl }
 
 pub cut_more : (plans : List code.Plan) (i : ℕ) (plan : code.Plan) (done now : Fields) (o : Option Field) (all : Fields) → i < length plans → plan ≡ get_or plans i plan
-    → o ≡ cut_of (plan_of plan) → AddsField done o now → fields_then done (cuts_of (plans_of (drop i plans))) ≡ all → fields_then now (cuts_of (plans_of (drop (i + 1) plans))) ≡ all
+    → o ≡ projected_field (plan_of plan) → AddsField done o now → fields_then done (projected_fields (plans_of (drop i plans))) ≡ all → fields_then now (projected_fields (plans_of (drop (i + 1) plans))) ≡ all
 cut_more plans i plan done now o all h is e adds left =
-    let rest = cuts_of (plans_of (drop (i + 1) plans)) in
-    adds.added rest ∙ ap (λ x. fields_then done (field_then x rest)) e ∙ sym (ap (λ ps. fields_then done (cuts_of ps)) (plans_of-drop plans i plan h is)) ∙ left
+    let rest = projected_fields (plans_of (drop (i + 1) plans)) in
+    adds.added rest ∙ ap (λ x. fields_then done (field_then x rest)) e ∙ sym (ap (λ ps. fields_then done (projected_fields ps)) (plans_of-drop plans i plan h is)) ∙ left
 
-pub all_cut : (plans : List code.Plan) (i : ℕ) (done all : Fields) → length plans ≤ i → fields_then done (cuts_of (plans_of (drop i plans))) ≡ all → done ≡ all
+pub all_cut : (plans : List code.Plan) (i : ℕ) (done all : Fields) → length plans ≤ i → fields_then done (projected_fields (plans_of (drop i plans))) ≡ all → done ≡ all
 all_cut plans i done all h left =
     let e : fields_then done no_fields ≡ all = rw (drop_all i plans h) at left in
     sym (fields_then_nothing done) ∙ e

@@ -8,17 +8,17 @@ use Rattle.dk_grammar.specs.Plain.{little}
 use Rattle.dk_grammar.specs.Structs.{Listed, last_under}
 use Rattle.dk_grammar.specs.PageHeaders.{Part, numbers_in, inner_under, SpellsHeader}
 use Rattle.dk_grammar.proofs.Bodies.{AreBytes}
-use Rattle.dk_pqmodel.specs.Datum.{Value, Entry, Column}
+use Rattle.dk_pqmodel.specs.Datum.{Value, Triple, Column}
 use Rattle.dk_pqmodel.specs.Footer.{int32 as fits32}
 use Rattle.dk_pqmodel.specs.FilePages.{ColumnAt, IsSized, HoldValues, HoldTriples, IsDataV1, IsDataV2, IsData}
-use Rattle.dk_pages.specs.Headers.{int32, rle}
-use Rattle.dk_pages.specs.Pages.{Page}
+use Rattle.dk_pqmodel.specs.Headers.{rle}
+use Rattle.dk_pqmodel.specs.Pages.{Page}
 use Rattle.dk_pages.specs.Spelled.{IsPageAt}
 use Rattle.dk_pages.specs.Split.{Parts, cut, sized, levels, split_v1, split_v2, split_of_kind}
-use Rattle.dk_pages.specs.declared.header.PageKind.{PageKind}
-use Rattle.dk_pages.specs.declared.header.PageKind.TheVariants.{DataV1, DataV2}
+use Rattle.dk_pqmodel.specs.declared.page.PageKind.{PageKind}
+use Rattle.dk_pqmodel.specs.declared.page.PageKind.TheVariants.{DataV1, DataV2}
 use Rattle.dk_pages.proofs.PageKinds.{natural_is, is_natural, int32_some, page_of_kind, SaysV1, SaysV2, SaysKind, page_kind, v1_stands, v2_stands}
-use Rattle.dk_pqread.specs.Scans.{is_level_code}
+use Rattle.dk_pqmodel.specs.Scans.{is_level_code}
 use Rattle.dk_pqread.specs.PageMeaning.{PageHolds, is_data}
 use Rattle.dk_pqread.proofs.PartLaws.{some_is, some_bound, cut_given, cut_found, sized_given, sized_found, front_bytes, back_bytes}
 
@@ -205,7 +205,7 @@ module _ (column : ColumnAt) (dictionary : Option (List Value)) (bytes front par
         type = d.page.kind;
         size = is_natural (last_under (pos 3) (numbers_in d.parts)) (length d.body) d.page.size d.page.fits;
         values = is_natural (last_under (pos 1) inner) (length triples) d.count d.fits;
-        encoding = ap int32 d.encoding ∙ coded column dictionary d.code (filter_map (λ (e : Entry). e.value) triples) d.values d.triples_held.held;
+        encoding = ap int32 d.encoding ∙ coded column dictionary d.code (filter_map (λ (e : Triple). e.value) triples) d.values d.triples_held.held;
         def_code = sym (int32_fits (last_under (pos 3) inner)) ∙ d.def_code.1;
         rep_code = sym (int32_fits (last_under (pos 4) inner)) ∙ d.rep_code.1;
         kind = refl;
@@ -240,7 +240,7 @@ module _ (column : ColumnAt) (dictionary : Option (List Value)) (bytes front par
         type = d.page.kind;
         size = is_natural (last_under (pos 3) (numbers_in d.parts)) (length d.body) d.page.size d.page.fits;
         values = is_natural (last_under (pos 1) inner) (length triples) d.count d.fits;
-        encoding = ap int32 d.encoding ∙ coded column dictionary d.code (filter_map (λ (e : Entry). e.value) triples) d.values d.triples_held.held;
+        encoding = ap int32 d.encoding ∙ coded column dictionary d.code (filter_map (λ (e : Triple). e.value) triples) d.values d.triples_held.held;
         def_bytes = is_natural (last_under (pos 5) inner) (length d.def) d.def_size def_fits;
         rep_bytes = is_natural (last_under (pos 6) inner) (length d.rep) d.rep_size rep_fits;
         kind = refl;

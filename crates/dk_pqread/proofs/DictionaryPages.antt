@@ -11,11 +11,11 @@ use Rattle.dk_pqmodel.specs.Shape.{Leaf}
 use Rattle.dk_pqmodel.specs.Datum.{Value}
 use Rattle.dk_pqmodel.specs.FilePages.{IsDictionary}
 use Rattle.dk_pqmodel.specs.declared.fault.PqFault.{PqFault}
-use Rattle.dk_pages.specs.Headers.{int32, rle}
-use Rattle.dk_pages.specs.Pages.{Page}
+use Rattle.dk_pqmodel.specs.Headers.{rle}
+use Rattle.dk_pqmodel.specs.Pages.{Page}
 use Rattle.dk_pages.specs.Spelled.{IsPageAt}
-use Rattle.dk_pages.specs.declared.header.PageKind.{PageKind}
-use Rattle.dk_pages.specs.declared.header.PageKind.TheVariants.{DataV1, DataV2, Dictionary}
+use Rattle.dk_pqmodel.specs.declared.page.PageKind.{PageKind}
+use Rattle.dk_pqmodel.specs.declared.page.PageKind.TheVariants.{DataV1, DataV2, Dictionary}
 use Rattle.dk_pages.proofs.PageKinds.{natural_is, is_natural, int32_some, page_of_kind, SaysDictionary, SaysKind, page_kind, dictionary_stands}
 use Rattle.dk_pqread.specs.ChunkMeaning.{AreWhole, EntriesHold, is_dictionary, is_entry_code}
 use Rattle.dk_levels.specs.Answers.{FailsMeant}

@@ -4,7 +4,7 @@ use Rattle.std.proofs.lemmas.List.{map-append, take_more}
 use Rattle.dk_pqmodel.specs.Datum.{Datum, Cells, no_cells, one_cell, appended}
 use Rattle.dk_pqmodel.specs.Footer.{RowGroup}
 use Rattle.dk_pqmodel.specs.FileMeans.{HasRows, HaveRows, all_rows, rows_in}
-use Rattle.dk_pqmodel.specs.Laid.{Plans, both_read, turned_all, in_group, widened_each, rows_widened}
+use Rattle.dk_pqmodel.specs.Projection.{Plans, both_read, turned_all, in_group, widened_each, rows_widened}
 use Rattle.dk_pqmodel.specs.declared.fault.PqFault.{PqFault}
 use Rattle.dk_pqmeta.specs.View.{group_view}
 use Rattle.dk_pqmeta.specs.declared.footer.RowGroup as code

@@ -1,7 +1,7 @@
 -- Loops over plans and nodes: what is done, and then what is left, is the whole.
 use Rattle.std.proofs.Common.{◌≡◌, ℕ, zero, suc, ◌+◌, ◌<◌, List, [], ◌∷◌, ◌++◌, length, get_or, drop, Option, Some, None, refl, sym, ap, add-one, arith}
 use Rattle.std.specs.Option.{option_map}
-use Rattle.dk_pqmodel.specs.Laid.{Plans, no_plans, one_plan}
+use Rattle.dk_pqmodel.specs.Projection.{Plans, no_plans, one_plan}
 use Rattle.dk_pqmodel.specs.Datum.{Cells, no_cells, one_cell, appended}
 use Rattle.dk_pqmodel.specs.Shape.{Fields, no_fields, one_field}
 use Rattle.dk_pqmodel.specs.NodeView.{field_of, fields_of}

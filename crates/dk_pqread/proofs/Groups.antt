@@ -5,7 +5,7 @@ use Rattle.std.specs.Prelude.{slice_index_or}
 use Rattle.std.specs.Str.{bytes_eq}
 use Rattle.std.proofs.lemmas.Bool.{and_parts}
 use Rattle.std.proofs.lemmas.Slice.Eq.{bytes_eq-Decides}
-use Rattle.dk_pqmodel.specs.Laid.{Path}
+use Rattle.dk_pqmodel.specs.Projection.{Path}
 use Rattle.dk_pqmodel.specs.Datum.{Column}
 use Rattle.dk_pqmodel.specs.Footer.{Chunk, RowGroup, is_path, has_path, is_new_each}
 use Rattle.dk_pqmodel.specs.FileMeans.{HasTriples, HasColumn, HasColumns}
@@ -13,7 +13,7 @@ use Rattle.dk_pqmodel.specs.FilePages.{ColumnAt}
 use Rattle.dk_pqmodel.specs.declared.fault.PqFault.{PqFault}
 use Rattle.dk_pqread.specs.ColumnView.{column_at}
 use Rattle.dk_pqread.specs.Meanings.{Refuses}
-use Rattle.dk_pqread.specs.Scans.{chunk_at}
+use Rattle.dk_pqmodel.specs.Scans.{chunk_at}
 use Rattle.dk_pqread.specs.declared.column.Column as code
 use Rattle.dk_pqread.proofs.ChunkPages.{chunk_once}
 use Rattle.dk_pqread.proofs.Finding.{refuses_by}

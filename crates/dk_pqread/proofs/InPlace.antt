@@ -2,7 +2,7 @@
 use Rattle.std.proofs.Common.{◌≡◌, ℕ, ◌+◌, ◌<◌, ◌≤◌, List, [], ◌∷◌, ◌++◌, length, get_or, set, take, drop, Option, Some, sym, ap, ◌∙◌, arith}
 use Rattle.std.proofs.lemmas.List.{drop_all, drop_more, drop-set-lt, length-set, take_all, take_more_set, take-set}
 use Rattle.dk_pqmodel.specs.Datum.{Datum, Cells}
-use Rattle.dk_pqmodel.specs.Laid.{turned_all}
+use Rattle.dk_pqmodel.specs.Projection.{turned_all}
 use Rattle.dk_pqmodel.specs.RowView.{datum_of, cells_of}
 use Rattle.dk_pqmodel.specs.declared.row.Cell.{Cell}
 use Rattle.dk_pqread.specs.Cells.{cells_then}

@@ -3,7 +3,7 @@ use Rattle.std.proofs.Common.{◌≡◌, ℕ, ◌+◌, ◌<◌, ◌≤◌, List,
 use Rattle.std.proofs.lemmas.List.{drop_all}
 use Rattle.dk_pqmodel.specs.Shape.{Fields, no_fields}
 use Rattle.dk_pqmodel.specs.FileSchema.{FileNodes}
-use Rattle.dk_pqmodel.specs.Laid.{Path, Plans, laid_each, laid_named, misfit_each, misfit_named}
+use Rattle.dk_pqmodel.specs.Projection.{Path, Plans, projection_each, projection_named, misfit_each, misfit_named}
 use Rattle.dk_pqmodel.specs.NodeView.{field_of, fields_of}
 use Rattle.dk_pqmodel.specs.declared.node.Node.{Node}
 use Rattle.dk_pqmodel.proofs.NodeViews.{fields_of-drop}
@@ -17,20 +17,20 @@ use Rattle.dk_pqread.proofs.Going.{plans_then_push, plans_then_nothing}
 -- nothing differed so far, and the plans done and those left are all
 pub record LeftToLay (fs : Fields) (path written : Path) (ns : FileNodes) (done : Plans) (misfit : Option Path) (all : Plans) : Type 0 where
   pub differs : misfit_each fs written ns ≡ misfit
-  pub laid : plans_then done (laid_each fs path ns) ≡ all
+  pub projection : plans_then done (projection_each fs path ns) ≡ all
 
 module _ (nodes : List Node) (i : ℕ) (node : Node) (path written : Path) (ns : FileNodes) (done : List code.Plan) (misfit : Option Path) (all : Plans)
     (h : i < length nodes) (is : node ≡ get_or nodes i node) (left : LeftToLay (fields_of (drop i nodes)) path written ns (plans_of done) misfit all) where
-  pub lay_more : (p : code.Plan) (now : List code.Plan) → misfit_named (field_of node) written ns ≡ None → laid_named (field_of node) path ns ≡ plan_of p → now ≡ done ++ p ∷ []
+  pub lay_more : (p : code.Plan) (now : List code.Plan) → misfit_named (field_of node) written ns ≡ None → projection_named (field_of node) path ns ≡ plan_of p → now ≡ done ++ p ∷ []
       → LeftToLay (fields_of (drop (i + 1) nodes)) path written ns (plans_of now) misfit all
   lay_more p now fits lays pushed =
       let opened = fields_of-drop nodes i node h is in
       record {
         differs = sym (ap (λ fs. misfit_each fs written ns) opened ∙ rw fits refl) ∙ left.differs;
-        laid =
-            ap (λ x. plans_then (plans_of x) (laid_each (fields_of (drop (i + 1) nodes)) path ns)) pushed
-            ∙ plans_then_push done p (laid_each (fields_of (drop (i + 1) nodes)) path ns)
-            ∙ sym (ap (λ fs. plans_then (plans_of done) (laid_each fs path ns)) opened ∙ rw lays refl) ∙ left.laid;
+        projection =
+            ap (λ x. plans_then (plans_of x) (projection_each (fields_of (drop (i + 1) nodes)) path ns)) pushed
+            ∙ plans_then_push done p (projection_each (fields_of (drop (i + 1) nodes)) path ns)
+            ∙ sym (ap (λ fs. plans_then (plans_of done) (projection_each fs path ns)) opened ∙ rw lays refl) ∙ left.projection;
       }
 
   pub lay_refused : (fault : LayFault) → IsMisfit fault (misfit_named (field_of node) written ns) → IsMisfit fault misfit
@@ -44,5 +44,5 @@ pub all_laid : (nodes : List Node) (i : ℕ) (path written : Path) (ns : FileNod
 all_laid nodes i path written ns done misfit all h left =
     let none = drop_all i nodes h in
     let differs : None ≡ misfit = rw none at left.differs in
-    let laid : plans_then (plans_of done) (laid_each no_fields path ns) ≡ all = rw none at left.laid in
-    (sym differs, sym laid ∙ plans_then_nothing (plans_of done))
+    let projection : plans_then (plans_of done) (projection_each no_fields path ns) ≡ all = rw none at left.projection in
+    (sym differs, sym projection ∙ plans_then_nothing (plans_of done))

@@ -3,13 +3,13 @@ use Rattle.std.proofs.Common.{◌≡◌, ℕ, Bool, true, false, List, [], ◌�
 use Rattle.std.specs.List.{All}
 use Rattle.std.proofs.lemmas.List.Elements.{All-head, All-tail}
 use Rattle.dk_levels.proofs.Again.{one_solid_reading}
-use Rattle.dk_levels.proofs.Cuts.{cuts_are_solid}
+use Rattle.dk_levels.proofs.Cuts.{projected_is_solid}
 use Rattle.dk_pqmodel.specs.Shape.{Fields, no_fields, root}
 use Rattle.dk_pqmodel.specs.Datum.{Datum, null, atom, group, list, Cells, no_cells, one_cell, Column}
 use Rattle.dk_pqmodel.specs.FileSchema.{FileNodes}
 use Rattle.dk_pqmodel.specs.Fits.{Matches, AreRowsOf, AreTriplesOf}
 use Rattle.dk_pqmodel.specs.Footer.{RowGroup, Footer}
-use Rattle.dk_pqmodel.specs.Laid.{missing, value, members, elements, entries, Plans, no_plans, one_plan, all_missing, laid, cuts_of, rows_widened}
+use Rattle.dk_pqmodel.specs.Projection.{missing, value, members, elements, entries, Plans, no_plans, one_plan, all_missing, projection, projected_fields, rows_widened}
 use Rattle.dk_pqmodel.specs.FileMeans.{columns_of, rows_in, HasRows, HaveRows, all_rows, MeansOneList}
 use Rattle.dk_pqmeta.proofs.Footers.{one_footer}
 use Rattle.dk_pqmeta.proofs.Framing.{framed_once}
@@ -20,13 +20,13 @@ use Rattle.dk_pqread.proofs.PartLaws.{some_is}
 
 -- ---- where the file has nothing that is wanted, rows are empty groups, so many as the group says
 
-pub cuts_missing : (ps : Plans) → all_missing ps ≡ true → cuts_of ps ≡ no_fields
-cuts_missing no_plans e = refl
-cuts_missing (one_plan missing ps) e = cuts_missing ps e
-cuts_missing (one_plan (value b l path) ps) e = cc
-cuts_missing (one_plan (members b qs) ps) e = cc
-cuts_missing (one_plan (elements b p) ps) e = cc
-cuts_missing (one_plan (entries b k path p) ps) e = cc
+pub projected_missing : (ps : Plans) → all_missing ps ≡ true → projected_fields ps ≡ no_fields
+projected_missing no_plans e = refl
+projected_missing (one_plan missing ps) e = projected_missing ps e
+projected_missing (one_plan (value b l path) ps) e = cc
+projected_missing (one_plan (members b qs) ps) e = cc
+projected_missing (one_plan (elements b p) ps) e = cc
+projected_missing (one_plan (entries b k path p) ps) e = cc
 
 empty_row : (c : Datum) → Matches c (root no_fields) → c ≡ group no_cells
 empty_row null h = cc
@@ -45,27 +45,27 @@ empty_rows_once (one_cell c cs) (one_cell d ds) first second count =
 -- ---- the rows of a group, and of all groups
 
 module _ (wanted : Fields) (nodes : FileNodes) where
-  rows_once : (rows others : Cells) (columns : List Column) → AreTriplesOf (cuts_of (laid wanted nodes)) rows columns → AreTriplesOf (cuts_of (laid wanted nodes)) others columns
+  rows_once : (rows others : Cells) (columns : List Column) → AreTriplesOf (projected_fields (projection wanted nodes)) rows columns → AreTriplesOf (projected_fields (projection wanted nodes)) others columns
       → rows_in rows ≡ rows_in others → rows ≡ others
-  rows_once rows others columns first second count = by (all_missing (laid wanted nodes)) refl
+  rows_once rows others columns first second count = by (all_missing (projection wanted nodes)) refl
     where
-      by : (lacks : Bool) → all_missing (laid wanted nodes) ≡ lacks → rows ≡ others
+      by : (lacks : Bool) → all_missing (projection wanted nodes) ≡ lacks → rows ≡ others
       by true e =
-          let none = cuts_missing (laid wanted nodes) e in
+          let none = projected_missing (projection wanted nodes) e in
           empty_rows_once rows others (subst (λ fields. AreRowsOf fields rows) none first.0) (subst (λ fields. AreRowsOf fields others) none second.0) count
       by false e =
-          let cut = cuts_are_solid wanted nodes e in
-          one_solid_reading (cuts_of (laid wanted nodes)) rows others columns cut.wide cut.solid first second
+          let cut = projected_is_solid wanted nodes e in
+          one_solid_reading (projected_fields (projection wanted nodes)) rows others columns cut.wide cut.solid first second
 
   module _ (before : List ℕ) where
-    share_once : (g : RowGroup) (rows others : Cells) → HasDistinctPaths g → HasRows before (laid wanted nodes) g rows → HasRows before (laid wanted nodes) g others → rows ≡ others
+    share_once : (g : RowGroup) (rows others : Cells) → HasDistinctPaths g → HasRows before (projection wanted nodes) g rows → HasRows before (projection wanted nodes) g others → rows ≡ others
     share_once g rows others distinct first second =
         let same : first.columns ≡ second.columns =
-        columns_once before g distinct (columns_of (laid wanted nodes) 0 0) first.columns second.columns first.held second.held in
-        rows_once rows others second.columns (subst (λ columns. AreTriplesOf (cuts_of (laid wanted nodes)) rows columns) same first.triples) second.triples (first.count ∙ sym second.count)
+        columns_once before g distinct (columns_of (projection wanted nodes) 0 0) first.columns second.columns first.held second.held in
+        rows_once rows others second.columns (subst (λ columns. AreTriplesOf (projected_fields (projection wanted nodes)) rows columns) same first.triples) second.triples (first.count ∙ sym second.count)
 
-    shares_once : (groups : List RowGroup) (shares others : List Cells) → All HasDistinctPaths groups → HaveRows before (laid wanted nodes) groups shares
-        → HaveRows before (laid wanted nodes) groups others → shares ≡ others
+    shares_once : (groups : List RowGroup) (shares others : List Cells) → All HasDistinctPaths groups → HaveRows before (projection wanted nodes) groups shares
+        → HaveRows before (projection wanted nodes) groups others → shares ≡ others
     shares_once [] [] [] distinct first second = refl
     shares_once [] [] (y ∷ ys) distinct first second = absurd second
     shares_once [] (x ∷ xs) others distinct first second = absurd first
@@ -84,10 +84,10 @@ one_list wanted bytes rows others first second =
     sym (front_is bytes first.before first.part first.framed (length first.part) refl) ∙ front_is bytes second.before second.part second.framed (length first.part) (ap length part_is) in
     let footer_is : first.footer ≡ second.footer =
     one_footer bytes first.footer second.footer (first.before, first.part, first.framed, first.spelled) (second.before, second.part, second.framed, second.spelled) in
-    let held : HaveRows second.before (laid wanted second.footer.fields) second.footer.groups first.shares =
-    subst (λ (f : Footer). HaveRows second.before (laid wanted f.fields) f.groups first.shares) footer_is
-    (subst (λ before. HaveRows before (laid wanted first.footer.fields) first.footer.groups first.shares) before_is first.held) in
+    let held : HaveRows second.before (projection wanted second.footer.fields) second.footer.groups first.shares =
+    subst (λ (f : Footer). HaveRows second.before (projection wanted f.fields) f.groups first.shares) footer_is
+    (subst (λ before. HaveRows before (projection wanted first.footer.fields) first.footer.groups first.shares) before_is first.held) in
     let shares_are : first.shares ≡ second.shares =
     shares_once wanted second.footer.fields second.before second.footer.groups first.shares second.shares (groups_distinct second.part second.footer second.spelled) held second.held in
     some_is rows others
-    (sym first.widened ∙ ap₂ (λ (f : Footer) shares. rows_widened (laid wanted f.fields) (all_rows shares)) footer_is shares_are ∙ second.widened)
+    (sym first.widened ∙ ap₂ (λ (f : Footer) shares. rows_widened (projection wanted f.fields) (all_rows shares)) footer_is shares_are ∙ second.widened)

@@ -4,12 +4,12 @@ use Rattle.dk_pqmodel.specs.Shape.{Fields}
 use Rattle.dk_pqmodel.specs.Footer.{Footer, RowGroup}
 use Rattle.dk_pqmodel.specs.FooterBytes.{IsFramed, SpellsFooter, HasFooter}
 use Rattle.dk_pqmodel.specs.FilePages.{ColumnAt}
-use Rattle.dk_pqmodel.specs.Laid.{first_misfit}
+use Rattle.dk_pqmodel.specs.Projection.{first_misfit}
 use Rattle.dk_pqmodel.specs.declared.fault.PqFault.{PqFault}
 use Rattle.dk_pqmodel.specs.declared.fault.PqFault.TheVariants.{NotParquet, Shape, Compressed, Encoding, Broken, OutOfMemory}
 use Rattle.dk_pqmeta.specs.Footers.{AnswersFooter}
-use Rattle.dk_pqread.specs.Scans.{first_compressed, first_unread}
-use Rattle.dk_pqread.specs.Faults.{columns_read, IsOpen, IsRefused}
+use Rattle.dk_pqmodel.specs.Scans.{first_compressed, first_unread}
+use Rattle.dk_pqmodel.specs.Faults.{columns_read, IsOpen, IsRefused}
 use Rattle.dk_pqread.specs.Examining.{LaysFile, Scans}
 
 pub footer_refused : (wanted : Fields) (bytes : List ℕ) (fault : PqFault) → AnswersFooter bytes (Err fault) → IsRefused wanted bytes fault

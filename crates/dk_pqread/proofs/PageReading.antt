@@ -6,11 +6,11 @@ use Rattle.dk_pqmodel.specs.Datum.{Value, Column}
 use Rattle.dk_pqmodel.specs.declared.columns.Value as code
 use Rattle.dk_pqmodel.specs.FilePages.{ColumnAt, HoldTriples}
 use Rattle.dk_pqmodel.specs.declared.fault.PqFault.{PqFault}
-use Rattle.dk_pages.specs.Pages.{Page}
+use Rattle.dk_pqmodel.specs.Pages.{Page}
 use Rattle.dk_pages.specs.Split.{Parts, split_of}
 use Rattle.dk_pqread.specs.Meanings.{Finds}
 use Rattle.dk_pqread.specs.PageMeaning.{PageHolds, PartsHold, AddsTriples, is_data}
-use Rattle.dk_pqread.specs.Scans.{is_level_code}
+use Rattle.dk_pqmodel.specs.Scans.{is_level_code}
 use Rattle.dk_pqread.proofs.Finding.{finds_as}
 use Rattle.dk_pqread.proofs.PartLaws.{some_is}
 

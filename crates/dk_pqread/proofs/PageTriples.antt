@@ -3,10 +3,10 @@ use Rattle.std.proofs.Common.{◌≡◌, ℕ, ◌≤◌, Option, Some, None, Res
 use Rattle.std.specs.List.{filter_map}
 use Rattle.std.proofs.lemmas.List.{length-map}
 use Rattle.std.proofs.lemmas.List.Elements.{All-from_recursion, recursion_from_All}
-use Rattle.dk_pqmodel.specs.Datum.{Value, Entry, Column}
+use Rattle.dk_pqmodel.specs.Datum.{Value, Triple, Column}
 use Rattle.dk_pqmodel.specs.FilePages.{ColumnAt, HoldLevels, HoldValues, HoldTriples, IsFull}
 use Rattle.dk_pqmodel.specs.declared.fault.PqFault.{PqFault}
-use Rattle.dk_pages.specs.Pages.{Page}
+use Rattle.dk_pqmodel.specs.Pages.{Page}
 use Rattle.dk_pages.specs.Split.{Parts}
 use Rattle.dk_levels.specs.Answers.{GivesMeant}
 use Rattle.dk_pqread.specs.Meanings.{Refuses, Finds, full_count, zipped, triples_then}
@@ -40,7 +40,7 @@ module _ (column : ColumnAt) (dictionary : Option (List Value)) (code : ℤ) (co
 
     pub values_refused : (before : Column) (fault : PqFault) → Refuses fault (AreValuesOf column dictionary code (full_count column.def ds) parts.values) → Refuses fault (AddsTriples before Held)
     values_refused before fault h =
-        refuses_by fault (AreValuesOf column dictionary code (full_count column.def ds) parts.values) (AddsTriples before Held) (λ y n. (filter_map (λ (e : Entry). e.value) n.0, values_of n.0 n.2)) h
+        refuses_by fault (AreValuesOf column dictionary code (full_count column.def ds) parts.values) (AddsTriples before Held) (λ y n. (filter_map (λ (e : Triple). e.value) n.0, values_of n.0 n.2)) h
 
     module _ (rs : List ℕ) (reps : AreLevelsOf column.rep count parts.rep rs) (vs : List Value) (values : AreValuesOf column dictionary code (full_count column.def ds) parts.values vs) where
       same_reps : (ts : Column) → Held ts → map (λ e. e.repetition) ts ≡ rs
@@ -56,18 +56,18 @@ module _ (column : ColumnAt) (dictionary : Option (List Value)) (code : ℤ) (co
       held_is : (ts : Column) → Held ts → zipped column.rep column.def rs ds vs ≡ Some ts
       held_is ts h =
           ap (λ x. zipped column.rep column.def x ds vs) (sym (same_reps ts h))
-          ∙ ap (λ x. zipped column.rep column.def (map (λ (e : Entry). e.repetition) ts) x vs) (sym (same_defs ts h))
-          ∙ ap (λ x. zipped column.rep column.def (map (λ (e : Entry). e.repetition) ts) (map (λ (e : Entry). e.definition) ts) x) (sym (same_values ts h))
-          ∙ zipped_given column.rep column.def ts (recursion_from_All (IsFull column.def) ts h.held.full.0) (recursion_from_All (λ (e : Entry). e.repetition ≤ column.rep) ts h.held.full.1)
+          ∙ ap (λ x. zipped column.rep column.def (map (λ (e : Triple). e.repetition) ts) x vs) (sym (same_defs ts h))
+          ∙ ap (λ x. zipped column.rep column.def (map (λ (e : Triple). e.repetition) ts) (map (λ (e : Triple). e.definition) ts) x) (sym (same_values ts h))
+          ∙ zipped_given column.rep column.def ts (recursion_from_All (IsFull column.def) ts h.held.full.0) (recursion_from_All (λ (e : Triple). e.repetition ≤ column.rep) ts h.held.full.1)
 
       is_held : (ts : Column) → zipped column.rep column.def rs ds vs ≡ Some ts → Held ts
       is_held ts e =
           let z = zipped_found column.rep column.def rs ds vs ts e in record {
-            count = sym (length-map ts (λ (e : Entry). e.repetition)) ∙ ap length z.repetitions ∙ reps.0;
+            count = sym (length-map ts (λ (e : Triple). e.repetition)) ∙ ap length z.repetitions ∙ reps.0;
             held = record {
               repetitions = subst (λ x. HoldLevels column.rep x parts.rep) (sym z.repetitions) reps.1;
               definitions = subst (λ x. HoldLevels column.def x parts.def) (sym z.definitions) defs.1;
-              full = (All-from_recursion (IsFull column.def) ts z.full, All-from_recursion (λ (e : Entry). e.repetition ≤ column.rep) ts z.low);
+              full = (All-from_recursion (IsFull column.def) ts z.full, All-from_recursion (λ (e : Triple). e.repetition ≤ column.rep) ts z.low);
               held = subst (λ x. HoldValues column dictionary code x parts.values) (sym z.values) values.1;
             };
           }
@@ -89,11 +89,11 @@ module _ (column : ColumnAt) (dictionary : Option (List Value)) (code : ℤ) (co
 
 parts_once : (column : ColumnAt) (dictionary : Option (List Value)) (code : ℤ) (count : ℕ) (parts : Parts) (a b : Column) → PartsHold column dictionary code count parts a → PartsHold column dictionary code count parts b → a ≡ b
 parts_once column dictionary code count parts a b first second =
-    let ds = map (λ (e : Entry). e.definition) a in
+    let ds = map (λ (e : Triple). e.definition) a in
     let defs = defs_of column dictionary code count parts a first in
-    let rs = map (λ (e : Entry). e.repetition) a in
+    let rs = map (λ (e : Triple). e.repetition) a in
     let reps = reps_of column dictionary code count parts a first in
-    let vs = filter_map (λ (e : Entry). e.value) a in
+    let vs = filter_map (λ (e : Triple). e.value) a in
     let values = values_of column dictionary code count parts ds defs a first in
     some_is a b
     (sym (held_is column dictionary code count parts ds defs rs reps vs values a first) ∙ held_is column dictionary code count parts ds defs rs reps vs values b second)

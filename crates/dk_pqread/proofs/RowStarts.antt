@@ -2,12 +2,12 @@
 use Rattle.std.proofs.Common.{◌≡◌, ℕ, zero, suc, ◌+◌, ◌≤◌, Some, None, List, [], ◌∷◌, ◌++◌, length, replicate, refl, sym, subst, ◌∙◌, add-one, arith}
 use Rattle.std.proofs.lemmas.List.{length-replicate}
 use Rattle.dk_levels.proofs.Put.{length-cell_triples, length-later_triples}
-use Rattle.dk_pqmodel.specs.Datum.{Value, Datum, null, atom, group, list, Cells, no_cells, one_cell, Column, one_entry}
+use Rattle.dk_pqmodel.specs.Datum.{Value, Datum, null, atom, group, list, Cells, no_cells, one_cell, Column, single_triple}
 use Rattle.dk_pqmodel.specs.FileMeans.{rows_in}
 use Rattle.dk_pqmodel.specs.Fits.{AreTriplesOf, Matches, MatchEach, MatchAll}
 use Rattle.dk_pqmodel.specs.Shape as shape
 use Rattle.dk_pqmodel.specs.Shape.{Shape, Field, field, Fields, no_fields, one_field, entry, root, width_at, width_in}
-use Rattle.dk_pqmodel.specs.Triples.{joined, empty_columns, cell_triples, group_triples, list_triples, later_triples, reached}
+use Rattle.dk_pqmodel.specs.Triples.{columns_joined, empty_columns, cell_triples, group_triples, list_triples, later_triples, reached}
 
 -- one where it is 0
 abbrev pub zero_at : ℕ → ℕ
@@ -32,24 +32,24 @@ each_behind : (n : ℕ) (cs bs : List Column) → Each n cs → Each n bs → Ea
 each_behind n [] bs h k = k
 each_behind n (a ∷ cs) bs h k = (h.0, each_behind n cs bs h.1 k)
 
-each_joined : (n m : ℕ) (cs bs : List Column) → length cs ≡ length bs → Each n cs → Each m bs → Each (n + m) (joined cs bs)
+each_joined : (n m : ℕ) (cs bs : List Column) → length cs ≡ length bs → Each n cs → Each m bs → Each (n + m) (columns_joined cs bs)
 each_joined n m [] [] same h k = tt
 each_joined n m [] (b ∷ bs) same h k = absurd (omega (arith, same))
 each_joined n m (a ∷ cs) [] same h k = absurd (omega (arith, same))
 each_joined n m (a ∷ cs) (b ∷ bs) same h k = (omega (arith, starts_behind a b, h.0, k.0), each_joined n m cs bs (omega (arith, same)) h.1 k.1)
 
 -- where no row begins in the columns behind
-none_joined : (n : ℕ) (cs bs : List Column) → length bs ≤ length cs → Each n cs → Each 0 bs → Each n (joined cs bs)
+none_joined : (n : ℕ) (cs bs : List Column) → length bs ≤ length cs → Each n cs → Each 0 bs → Each n (columns_joined cs bs)
 none_joined n [] [] few h k = tt
 none_joined n [] (b ∷ bs) few h k = absurd (omega (arith, few))
 none_joined n (a ∷ cs) [] few h k = h
 none_joined n (a ∷ cs) (b ∷ bs) few h k = (omega (arith, starts_behind a b, h.0, k.0), none_joined n cs bs (omega (arith, few)) h.1 k.1)
 
-each_nothing : (width r d : ℕ) → Each (zero_at r) (replicate width (one_entry r d None))
+each_nothing : (width r d : ℕ) → Each (zero_at r) (replicate width (single_triple r d None))
 each_nothing zero r d = tt
 each_nothing (suc width) r d = (omega arith, each_nothing width r d)
 
-on_leaf : (v : Value) (s : Shape) (r d : ℕ) → Each (zero_at r) (one_entry r d (Some v) ∷ [])
+on_leaf : (v : Value) (s : Shape) (r d : ℕ) → Each (zero_at r) (single_triple r d (Some v) ∷ [])
 on_leaf v s r d = (omega arith, tt)
 
 above_zero : (k : ℕ) → zero_at (k + 1) ≡ 0
@@ -61,10 +61,10 @@ mutual
   cell_starts (atom v) (field name b s) r d k h = on_leaf v s r (reached (field name b s) d)
   cell_starts (group cs) (field name b (shape.group fs)) r d k h = group_starts cs fs r _ k h
   cell_starts (list cs) (field name b (shape.list f)) r d k h = list_starts cs f r _ k h
-  cell_starts (list cs) (field name b (shape.dictionary f)) r d k h = list_starts cs (entry f) r _ k h
+  cell_starts (list cs) (field name b (shape.map_of f)) r d k h = list_starts cs (entry f) r _ k h
   cell_starts (group cs) (field name b (shape.leaf l)) r d k h = absurd h
   cell_starts (group cs) (field name b (shape.list f)) r d k h = absurd h
-  cell_starts (group cs) (field name b (shape.dictionary f)) r d k h = absurd h
+  cell_starts (group cs) (field name b (shape.map_of f)) r d k h = absurd h
   cell_starts (list cs) (field name b (shape.leaf l)) r d k h = absurd h
   cell_starts (list cs) (field name b (shape.group fs)) r d k h = absurd h
 
@@ -92,11 +92,11 @@ mutual
 rows_start : (row : Datum) (rows : Cells) (f : Field) → MatchAll (one_cell row rows) f → Each (rows_in (one_cell row rows)) (later_triples (one_cell row rows) f 0 0) × (length (later_triples (one_cell row rows) f 0 0) ≡ width_in f)
 rows_start row no_cells f h = (each_first (cell_triples row f 0 0 0) (cell_starts row f 0 0 0 h.0), same (cell_triples row f 0 0 0) (length-cell_triples row f 0 0 0 h.0))
   where
-    each_first : (cs : List Column) → Each 1 cs → Each 1 (joined cs [])
+    each_first : (cs : List Column) → Each 1 cs → Each 1 (columns_joined cs [])
     each_first [] k = tt
     each_first (a ∷ cs) k = k
 
-    same : (cs : List Column) → length cs ≡ width_in f → length (joined cs []) ≡ width_in f
+    same : (cs : List Column) → length cs ≡ width_in f → length (columns_joined cs []) ≡ width_in f
     same [] e = e
     same (a ∷ cs) e = e
 rows_start row (one_cell next rows) f h =
@@ -106,13 +106,13 @@ rows_start row (one_cell next rows) f h =
       long (cell_triples row f 0 0 0) (later_triples (one_cell next rows) f 0 0) (width_in f) first rest.1,
     )
   where
-    long : (cs bs : List Column) (n : ℕ) → length cs ≡ n → length bs ≡ n → length (joined cs bs) ≡ n
+    long : (cs bs : List Column) (n : ℕ) → length cs ≡ n → length bs ≡ n → length (columns_joined cs bs) ≡ n
     long [] bs n e g = g
     long (a ∷ cs) [] n e g = e
     long (a ∷ cs) (b ∷ bs) zero e g = absurd (omega (arith, e))
     long (a ∷ cs) (b ∷ bs) (suc n) e g = omega (arith, long cs bs n (omega (arith, e)) (omega (arith, g)))
 
-each_empty : (width : ℕ) → Each 0 (joined (empty_columns width) [])
+each_empty : (width : ℕ) → Each 0 (columns_joined (empty_columns width) [])
 each_empty zero = tt
 each_empty (suc width) = (refl, none width)
   where
@@ -133,5 +133,5 @@ triples_start fs (one_cell row rows) columns h =
     let none : 0 + count ≡ count = omega arith in
     let columns_are = later_triples (one_cell row rows) (root fs) 0 0 in
     subst (Each count) (sym h.1)
-    (subst (λ n. Each n (joined (empty_columns (width_in (root fs))) columns_are)) none
+    (subst (λ n. Each n (columns_joined (empty_columns (width_in (root fs))) columns_are)) none
     (each_joined 0 count (empty_columns (width_in (root fs))) columns_are (length-replicate _ _ ∙ sym all.1) (each_none (width_in (root fs))) all.0))

@@ -2,8 +2,8 @@
 use Rattle.std.proofs.Common.{◌≡◌, ℕ, suc, ◌+◌, ◌-◌, ◌<◌, ◌==◌, Bool, true, false, Option, Some, None, ℤ, List, refl, sym, ap, ◌∙◌, arith}
 use Rattle.std.proofs.lemmas.Bool.{eqb-true}
 use Rattle.dk_pqmodel.specs.FilePages.{ColumnAt}
-use Rattle.dk_pages.specs.Pages.{Page, page_at}
-use Rattle.dk_pqread.specs.Scans.{unread_code, unread_from, values_in}
+use Rattle.dk_pqmodel.specs.Pages.{Page, page_at}
+use Rattle.dk_pqmodel.specs.Scans.{unread_code, unread_from, values_in}
 
 unlike : (n : ℕ) → (n ≡ 0 → ⊥) → (n == 0) ≡ false
 unlike n h = by_test (n == 0) refl

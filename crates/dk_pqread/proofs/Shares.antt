@@ -10,7 +10,7 @@ use Rattle.dk_pqmodel.specs.Datum.{Cells, no_cells, one_cell, Column, appended}
 use Rattle.dk_pqmodel.specs.Fits.{AreTriplesOf, AreRowsOf}
 use Rattle.dk_pqmodel.specs.Footer.{RowGroup, is_new_each}
 use Rattle.dk_pqmodel.specs.FileMeans.{HasColumns, HasRows, columns_of, rows_in}
-use Rattle.dk_pqmodel.specs.Laid.{missing, value, members, elements, entries, Plans, no_plans, one_plan, all_missing, cuts_of, rows_widened}
+use Rattle.dk_pqmodel.specs.Projection.{missing, value, members, elements, entries, Plans, no_plans, one_plan, all_missing, projected_fields, rows_widened}
 use Rattle.dk_pqmodel.specs.RowView.{row_of, rows_of}
 use Rattle.dk_pqmodel.specs.Triples.{later_triples}
 use Rattle.dk_pqmodel.specs.declared.row.Row.{Row}
@@ -22,7 +22,7 @@ use Rattle.dk_pqread.specs.Meanings.{Refuses, Finds}
 use Rattle.dk_pqread.specs.RowsMeaning.{AddsRows, GroupMeans, empty_rows}
 use Rattle.dk_pqread.proofs.Finding.{refuses_by, finds_given}
 use Rattle.dk_pqread.proofs.Groups.{columns_once}
-use Rattle.dk_pqread.proofs.OneList.{cuts_missing, empty_rows_once}
+use Rattle.dk_pqread.proofs.OneList.{projected_missing, empty_rows_once}
 use Rattle.dk_pqread.proofs.PartLaws.{none_is_not_some, some_is}
 
 -- what assembling answers
@@ -46,19 +46,19 @@ module _ (before : List ℕ) (plans : Plans) (group : RowGroup) where
   columns_refused fault h = refuses_by fault (HasColumns before group (columns_of plans 0 0)) (HasRows before plans group) (λ rows g. (g.columns, g.held)) h
 
   module _ (distinct : is_new_each [] group.columns ≡ true) (columns : List Column) (held : HasColumns before group (columns_of plans 0 0) columns) where
-    of_columns : (rows : Cells) → HasRows before plans group rows → AreTriplesOf (cuts_of plans) rows columns
-    of_columns rows g = subst (λ cs. AreTriplesOf (cuts_of plans) rows cs) (columns_once before group distinct (columns_of plans 0 0) g.columns columns g.held held) g.triples
+    of_columns : (rows : Cells) → HasRows before plans group rows → AreTriplesOf (projected_fields plans) rows columns
+    of_columns rows g = subst (λ cs. AreTriplesOf (projected_fields plans) rows cs) (columns_once before group distinct (columns_of plans 0 0) g.columns columns g.held held) g.triples
 
-    pub join_refused : (fault : PqFault) → Refuses fault (λ rows. AreTriplesOf (cuts_of plans) rows columns) → Refuses fault (HasRows before plans group)
-    join_refused fault h = refuses_by fault (λ rows. AreTriplesOf (cuts_of plans) rows columns) (HasRows before plans group) (λ rows g. (rows, of_columns rows g)) h
+    pub join_refused : (fault : PqFault) → Refuses fault (λ rows. AreTriplesOf (projected_fields plans) rows columns) → Refuses fault (HasRows before plans group)
+    join_refused fault h = refuses_by fault (λ rows. AreTriplesOf (projected_fields plans) rows columns) (HasRows before plans group) (λ rows g. (rows, of_columns rows g)) h
 
-    module _ (rows : Cells) (triples : AreTriplesOf (cuts_of plans) rows columns) where
+    module _ (rows : Cells) (triples : AreTriplesOf (projected_fields plans) rows columns) where
       pub share_found : rows_in rows ≡ group.rows → HasRows before plans group rows
       share_found count = record { columns = columns; held = held; triples = triples; count = count }
 
-      pub other_count : IsReadable (cuts_of plans) → (rows_in rows ≡ group.rows → ⊥) → (others : Cells) → HasRows before plans group others → ⊥
+      pub other_count : IsReadable (projected_fields plans) → (rows_in rows ≡ group.rows → ⊥) → (others : Cells) → HasRows before plans group others → ⊥
       other_count readable differs others g =
-          let same : others ≡ rows = one_reading (cuts_of plans) others rows columns readable (of_columns others g) triples in
+          let same : others ≡ rows = one_reading (projected_fields plans) others rows columns readable (of_columns others g) triples in
           differs (ap rows_in (sym same) ∙ g.count)
 
 -- ---- where the file has none of what is wanted
@@ -89,7 +89,7 @@ empty_share before plans group rows gone is =
     record {
       columns = [];
       held = subst (λ cs. HasColumns before group cs []) (sym (columns_missing plans gone 0 0)) tt;
-      triples = subst (λ fs. AreTriplesOf fs (empty_rows group.rows) []) (sym (cuts_missing plans gone)) (empty_match group.rows, sym (empty_triples group.rows));
+      triples = subst (λ fs. AreTriplesOf fs (empty_rows group.rows) []) (sym (projected_missing plans gone)) (empty_match group.rows, sym (empty_triples group.rows));
       count = empty_count group.rows;
     }
 
@@ -108,14 +108,14 @@ empty_more rows now row n done empty pushed =
 
 -- ---- a group has at most one list of rows
 
-module _ (before : List ℕ) (plans : Plans) (group : RowGroup) (distinct : is_new_each [] group.columns ≡ true) (readable : all_missing plans ≡ false → IsReadable (cuts_of plans)) where
+module _ (before : List ℕ) (plans : Plans) (group : RowGroup) (distinct : is_new_each [] group.columns ≡ true) (readable : all_missing plans ≡ false → IsReadable (projected_fields plans)) where
   share_once : (a b : Cells) → HasRows before plans group a → HasRows before plans group b → a ≡ b
   share_once a b f g = by_plans (all_missing plans) refl
     where
       by_plans : (lacks : Bool) → all_missing plans ≡ lacks → a ≡ b
-      by_plans false e = one_reading (cuts_of plans) a b f.columns (readable e) f.triples (of_columns before plans group distinct f.columns f.held b g)
+      by_plans false e = one_reading (projected_fields plans) a b f.columns (readable e) f.triples (of_columns before plans group distinct f.columns f.held b g)
       by_plans true e =
-          let none = cuts_missing plans e in
+          let none = projected_missing plans e in
           empty_rows_once a b (subst (λ fs. AreRowsOf fs a) none f.triples.0) (subst (λ fs. AreRowsOf fs b) none g.triples.0) (f.count ∙ sym g.count)
 
   -- where a group has no rows, none are added

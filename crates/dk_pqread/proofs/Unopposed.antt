@@ -11,25 +11,25 @@ use Rattle.dk_pqmodel.specs.Footer.{Chunk, RowGroup, Footer, is_new_each}
 use Rattle.dk_pqmodel.specs.FooterBytes.{HasFooter}
 use Rattle.dk_pqmodel.specs.FileMeans.{FileMeans, HasTriples, HasColumn, HasColumns, HaveRows, columns_of}
 use Rattle.dk_pqmodel.specs.FilePages.{ColumnAt, HoldValues, InRuns, FromDictionary}
-use Rattle.dk_pqmodel.specs.Laid.{Plans, laid, first_misfit}
+use Rattle.dk_pqmodel.specs.Projection.{Plans, projection, first_misfit}
 use Rattle.dk_pqmodel.specs.RowView.{rows_of}
 use Rattle.dk_pqmodel.specs.declared.row.Row.{Row}
 use Rattle.dk_pqmodel.specs.declared.fault.PqFault.{PqFault}
 use Rattle.dk_pqmodel.specs.declared.fault.PqFault.TheVariants.{NotParquet, Shape, Compressed, Encoding, Broken, OutOfMemory}
 use Rattle.dk_pqmeta.proofs.Footers.{one_footer}
-use Rattle.dk_pages.specs.Headers.{rle}
-use Rattle.dk_pages.specs.Pages.{Page, page_at}
+use Rattle.dk_pqmodel.specs.Headers.{rle}
+use Rattle.dk_pqmodel.specs.Pages.{Page, page_at}
 use Rattle.dk_pages.specs.Spelled.{IsPageAt}
-use Rattle.dk_pages.specs.declared.header.PageKind.{PageKind}
-use Rattle.dk_pages.specs.declared.header.PageKind.TheVariants.{DataV1, DataV2, Dictionary}
+use Rattle.dk_pqmodel.specs.declared.page.PageKind.{PageKind}
+use Rattle.dk_pqmodel.specs.declared.page.PageKind.TheVariants.{DataV1, DataV2, Dictionary}
 use Rattle.dk_pages.proofs.DictionaryCodes.{dictionary_codes}
 use Rattle.dk_pages.proofs.PageSpellings.{page_only}
 use Rattle.dk_pqread.specs.ChunkMeaning.{EntriesHold, DataFrom}
-use Rattle.dk_pqread.specs.Faults.{columns_read}
+use Rattle.dk_pqmodel.specs.Faults.{columns_read}
 use Rattle.dk_levels.specs.Answers.{FailsMeant, GivesMeant}
 use Rattle.dk_pqread.specs.PageMeaning.{PageHolds, is_data}
-use Rattle.dk_pqread.specs.RowsMeaning.{Reads}
-use Rattle.dk_pqread.specs.Scans.{chunk_at, codec_of, codec_in, first_compressed, is_value_code, is_read, is_level_code, unread_code, unread_from, unread_in, values_in, first_place, code_in, first_unread}
+use Rattle.dk_pqmodel.specs.Reads.{Reads}
+use Rattle.dk_pqmodel.specs.Scans.{chunk_at, codec_of, codec_in, first_compressed, is_value_code, is_read, is_level_code, unread_code, unread_from, unread_in, values_in, first_place, code_in, first_unread}
 use Rattle.dk_pqread.proofs.Answering.{before_once}
 use Rattle.dk_pqread.proofs.DistinctPaths.{HasDistinctPaths, groups_distinct}
 use Rattle.dk_pqread.proofs.ChunkPages.{ReadAs, chunk_means, data_first}
@@ -247,7 +247,7 @@ never_refused wanted bytes rows m fault h = by_fault fault h
     has = (m.before, m.part, m.framed, m.spelled)
 
     have : EachHasAll m.before m.footer.groups (columns_read wanted m.footer)
-    have = groups_have m.before (laid wanted m.footer.fields) m.footer.groups m.shares (groups_distinct m.part m.footer m.spelled) m.held
+    have = groups_have m.before (projection wanted m.footer.fields) m.footer.groups m.shares (groups_distinct m.part m.footer m.spelled) m.held
 
     by_fault : (fault : PqFault) → Reads wanted bytes (Err fault) → fault ≡ OutOfMemory
     by_fault OutOfMemory h = refl

@@ -3,7 +3,7 @@ use Rattle.std.proofs.Common.{◌≡◌, ℕ, ◌+◌, ◌<◌, ◌≤◌, Bool,
 use Rattle.std.specs.Option.{option_map, option_and_then}
 use Rattle.std.proofs.lemmas.List.{drop_all}
 use Rattle.dk_pqmodel.specs.Datum.{Datum, null, atom, group, list, Cells, no_cells, one_cell, appended}
-use Rattle.dk_pqmodel.specs.Laid.{elements, entries, is_missing, both_read, next_cell, pair_of, rows_widened, turned_all, widened, widened_each, Plans}
+use Rattle.dk_pqmodel.specs.Projection.{elements, entries, is_missing, both_read, next_cell, pair_of, rows_widened, turned_all, widened, widened_each, Plans}
 use Rattle.dk_pqmodel.specs.RowView.{datum_of, cells_of, row_of, rows_of}
 use Rattle.dk_pqmodel.specs.declared.row.Row.{Row}
 use Rattle.dk_pqmodel.specs.declared.row.Cell.{Cell}
@@ -108,9 +108,9 @@ turned_done done all left = sym left ∙ ap Some (appended_nothing done)
 
 -- ---- entries of maps
 
-pub entry_is : (turn : Datum → Option Datum) (d key w : Datum) (own : Option Datum) → key_and_value d ≡ Some (key, own) → value_for turn own ≡ Some w
+pub triple_is : (turn : Datum → Option Datum) (d key w : Datum) (own : Option Datum) → key_and_value d ≡ Some (key, own) → value_for turn own ≡ Some w
     → pair_of turn d ≡ Some (group (one_cell key (one_cell w no_cells)))
-entry_is turn d key w own e f = pair_parts turn d ∙ rw (e, f) refl
+triple_is turn d key w own e f = pair_parts turn d ∙ rw (e, f) refl
 
 pub entry_fails : (turn : Datum → Option Datum) (d key : Datum) (own : Option Datum) (fault : PqFault) → key_and_value d ≡ Some (key, own) → FailsMeant fault (value_for turn own) → FailsMeant fault (pair_of turn d)
 entry_fails turn d key own fault e bad = fails_same fault (value_for turn own) (pair_of turn d) (λ f. pair_parts turn d ∙ rw (e, f) refl) bad
@@ -118,11 +118,11 @@ entry_fails turn d key own fault e bad = fails_same fault (value_for turn own) (
 pub no_entry : (turn : Datum → Option Datum) (d : Datum) → key_and_value d ≡ None → pair_of turn d ≡ None
 no_entry turn d e = pair_parts turn d ∙ rw e refl
 
-abbrev entry_of : Option Datum → Option Datum → Option Datum → Option (Datum × Option Datum)
-entry_of (Some (atom k)) value None = Some (atom k, value)
-entry_of key value third = None
+abbrev triple_of : Option Datum → Option Datum → Option Datum → Option (Datum × Option Datum)
+triple_of (Some (atom k)) value None = Some (atom k, value)
+triple_of key value third = None
 
-entry_by : (cs : Cells) → key_and_value (group cs) ≡ entry_of (first_cell cs).0 (first_cell (first_cell cs).1).0 (first_cell (first_cell (first_cell cs).1).1).0
+entry_by : (cs : Cells) → key_and_value (group cs) ≡ triple_of (first_cell cs).0 (first_cell (first_cell cs).1).0 (first_cell (first_cell (first_cell cs).1).1).0
 entry_by no_cells = refl
 entry_by (one_cell null cs) = refl
 entry_by (one_cell (group ds) cs) = refl
@@ -133,26 +133,26 @@ entry_by (one_cell (atom k) (one_cell v (one_cell c cs))) = refl
 
 module _ (cs a b d : Cells) (key : Cell) (value third : Option Cell) (e : first_cell cs ≡ (Some (datum_of key), a)) (f : first_cell a ≡ (option_map datum_of value, b))
     (g : first_cell b ≡ (option_map datum_of third, d)) where
-  entry_read : key_and_value (group cs) ≡ entry_of (Some (datum_of key)) (option_map datum_of value) (option_map datum_of third)
+  entry_read : key_and_value (group cs) ≡ triple_of (Some (datum_of key)) (option_map datum_of value) (option_map datum_of third)
   entry_read =
-      entry_by cs ∙ ap (λ (x : Option Datum × Cells). entry_of x.0 (first_cell x.1).0 (first_cell (first_cell x.1).1).0) e
-      ∙ ap (λ (x : Option Datum × Cells). entry_of (Some (datum_of key)) x.0 (first_cell x.1).0) f ∙ ap (λ (x : Option Datum × Cells). entry_of (Some (datum_of key)) (option_map datum_of value) x.0) g
+      entry_by cs ∙ ap (λ (x : Option Datum × Cells). triple_of x.0 (first_cell x.1).0 (first_cell (first_cell x.1).1).0) e
+      ∙ ap (λ (x : Option Datum × Cells). triple_of (Some (datum_of key)) x.0 (first_cell x.1).0) f ∙ ap (λ (x : Option Datum × Cells). triple_of (Some (datum_of key)) (option_map datum_of value) x.0) g
 
-  three_in : (t : Option Cell) → is_some t ≡ true → (k : Datum) (v : Option Datum) → None ≡ entry_of (Some k) v (option_map datum_of t)
+  three_in : (t : Option Cell) → is_some t ≡ true → (k : Datum) (v : Option Datum) → None ≡ triple_of (Some k) v (option_map datum_of t)
   three_in None h k v = cc
   three_in (Some x) h null v = refl
   three_in (Some x) h (atom y) v = refl
   three_in (Some x) h (group y) v = refl
   three_in (Some x) h (list y) v = refl
 
-  two_in : (t : Option Cell) → is_some t ≡ false → (k : Datum) (v : Option Datum) → is_atom k ≡ true → Some (k, v) ≡ entry_of (Some k) v (option_map datum_of t)
+  two_in : (t : Option Cell) → is_some t ≡ false → (k : Datum) (v : Option Datum) → is_atom k ≡ true → Some (k, v) ≡ triple_of (Some k) v (option_map datum_of t)
   two_in (Some x) h k v i = cc
   two_in None h null v i = cc
   two_in None h (atom y) v i = refl
   two_in None h (group y) v i = cc
   two_in None h (list y) v i = cc
 
-  no_key : (k : Datum) (v t : Option Datum) → is_atom k ≡ false → None ≡ entry_of (Some k) v t
+  no_key : (k : Datum) (v t : Option Datum) → is_atom k ≡ false → None ≡ triple_of (Some k) v t
   no_key null v t i = refl
   no_key (atom y) v t i = cc
   no_key (group y) v t i = refl

@@ -5,9 +5,9 @@ use Rattle.dk_grammar.specs.Plain.{Plain, plain_values}
 use Rattle.dk_pqmodel.specs.Shape.{Leaf}
 use Rattle.dk_pqmodel.specs.Datum.{Value, Column}
 use Rattle.dk_pqmodel.specs.FilePages.{ColumnAt, ArePlainOf, AreData}
-use Rattle.dk_pages.specs.Pages.{Page}
-use Rattle.dk_pages.specs.declared.header.PageKind.{PageKind}
-use Rattle.dk_pages.specs.declared.header.PageKind.TheVariants.{DataV1, DataV2, Dictionary}
+use Rattle.dk_pqmodel.specs.Pages.{Page}
+use Rattle.dk_pqmodel.specs.declared.page.PageKind.{PageKind}
+use Rattle.dk_pqmodel.specs.declared.page.PageKind.TheVariants.{DataV1, DataV2, Dictionary}
 
 abbrev pub is_dictionary : PageKind → Bool
 is_dictionary DataV1 = false

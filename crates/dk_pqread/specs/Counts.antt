@@ -2,7 +2,7 @@
 use Rattle.std.specs.Prelude.{ℕ, ◌-◌, ◌==◌, ◌&&◌, nat_le, nat_lt, Bool, true, false, if◌then◌else◌, Option, Some, None, List, [], ◌∷◌}
 use Rattle.dk_pqmodel.specs.FilePages.{ColumnAt}
 use Rattle.dk_pqmodel.specs.Footer.{Chunk, RowGroup}
-use Rattle.dk_pqread.specs.Scans.{chunk_at}
+use Rattle.dk_pqmodel.specs.Scans.{chunk_at}
 
 -- A column of so many rows may have so many triples: one for each row where nothing repeats, and one at least where something does.
 abbrev pub may_have : ℕ → ℕ → ℕ → Bool

@@ -1,6 +1,6 @@
 -- How many optional and repeated nodes of the file are above what is read.
 use Rattle.std.specs.Prelude.{ℕ, ◌+◌, max}
-use Rattle.dk_pqmodel.specs.Laid.{Plan, missing, value, members, elements, entries, Plans, no_plans, one_plan}
+use Rattle.dk_pqmodel.specs.Projection.{Plan, missing, value, members, elements, entries, Plans, no_plans, one_plan}
 use Rattle.dk_pqmodel.specs.FileMeans.{one_if}
 
 abbrev mutual

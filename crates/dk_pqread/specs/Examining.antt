@@ -5,20 +5,20 @@ use Rattle.dk_pqmodel.specs.Shape.{Fields}
 use Rattle.dk_pqmodel.specs.FileSchema.{FileNodes}
 use Rattle.dk_pqmodel.specs.Footer.{RowGroup}
 use Rattle.dk_pqmodel.specs.FilePages.{ColumnAt}
-use Rattle.dk_pqmodel.specs.Laid.{Path, laid, first_misfit, dotted}
+use Rattle.dk_pqmodel.specs.Projection.{Path, projection, first_misfit, dotted}
 use Rattle.dk_pqmodel.specs.declared.fault.PqFault.{PqFault}
 use Rattle.dk_pqmodel.specs.declared.fault.PqFault.TheVariants.{Shape, Compressed, Encoding, OutOfMemory}
 use Rattle.dk_pqmeta.specs.View.{footer_view}
 use Rattle.dk_pqread.specs.ColumnView.{column_at}
-use Rattle.dk_pqread.specs.Faults.{columns_read, IsOpen, IsRefused}
+use Rattle.dk_pqmodel.specs.Faults.{columns_read, IsOpen, IsRefused}
 use Rattle.dk_pqread.specs.PlanView.{plans_of}
-use Rattle.dk_pqread.specs.Scans.{first_compressed, first_unread}
+use Rattle.dk_pqmodel.specs.Scans.{first_compressed, first_unread}
 use Rattle.dk_pqread.specs.declared.examine.Examined.{Examined}
 use Rattle.dk_pqread.specs.declared.plan.Plan.{Plan}
 
 -- what is read for the wanted fields, or the first leaf that differs
 abbrev pub LaysFile : Fields → FileNodes → Result (Vec Plan Global) PqFault → Type 0
-LaysFile wanted fields (Ok plans) = (first_misfit wanted fields ≡ None) × (plans_of plans.items ≡ laid wanted fields)
+LaysFile wanted fields (Ok plans) = (first_misfit wanted fields ≡ None) × (plans_of plans.items ≡ projection wanted fields)
 LaysFile wanted fields (Err (Shape column)) = (path : Path) × (first_misfit wanted fields ≡ Some path) × (string_bytes column ≡ dotted path)
 LaysFile wanted fields (Err OutOfMemory) = ⊤
 LaysFile wanted fields (Err fault) = ⊥
@@ -35,6 +35,6 @@ Scans before columns groups (Err fault) = ⊥
 -- what is read of the file, where nothing stands against it; or what does
 abbrev pub Examines : Fields → List ℕ → Result Examined PqFault → Type 0
 Examines wanted bytes (Ok x) =
-    (before : List ℕ) × IsOpen wanted bytes before (footer_view x.footer) × (plans_of x.plans.items ≡ laid wanted (footer_view x.footer).fields)
+    (before : List ℕ) × IsOpen wanted bytes before (footer_view x.footer) × (plans_of x.plans.items ≡ projection wanted (footer_view x.footer).fields)
     × (map column_at x.columns.items ≡ columns_read wanted (footer_view x.footer))
 Examines wanted bytes (Err fault) = IsRefused wanted bytes fault

@@ -1,6 +1,6 @@
 -- What laying a wanted schema over a file's own answers.
 use Rattle.std.specs.Prelude.{◌≡◌, Option, Some, None, Result, Ok, Err, ⊤}
-use Rattle.dk_pqmodel.specs.Laid.{Path, Plans, no_plans, one_plan, field_then}
+use Rattle.dk_pqmodel.specs.Projection.{Path, Plans, no_plans, one_plan, field_then}
 use Rattle.dk_pqmodel.specs.Shape.{Field, Fields, no_fields, one_field}
 use Rattle.dk_pqread.specs.PlanView.{path_of}
 use Rattle.dk_pqread.specs.declared.fault.LayFault.{LayFault}

@@ -4,7 +4,6 @@ pub mod ColumnView
 pub mod Counts
 pub mod Depth
 pub mod Examining
-pub mod Faults
 pub mod Inner
 pub mod Laws
 pub mod Lays
@@ -13,5 +12,4 @@ pub mod Meanings
 pub mod PageMeaning
 pub mod PlanView
 pub mod RowsMeaning
-pub mod Scans
 pub mod Values

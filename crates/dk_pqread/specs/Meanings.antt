@@ -2,7 +2,7 @@
 use Rattle.std.specs.Prelude.{◌≡◌, ◌==◌, ℕ, nat_le, ⊤, if◌then◌else◌, ◌&&◌, Option, Some, None, option_map, option_and_then, Result, Ok, Err, List, [], ◌∷◌, ◌++◌, replicate, count_by, Vec}
 use Rattle.std.specs.declared.alloc.Global.{Global}
 use Rattle.dk_grammar.specs.Runs.{AreFirst}
-use Rattle.dk_pqmodel.specs.Datum.{Value, Entry, Column}
+use Rattle.dk_pqmodel.specs.Datum.{Value, Triple, Column}
 use Rattle.dk_pqmodel.specs.declared.fault.PqFault.{PqFault}
 use Rattle.dk_pqmodel.specs.declared.fault.PqFault.TheVariants.{Broken, OutOfMemory}
 
@@ -35,17 +35,17 @@ levels_of count (Some levels) = levels.items
 abbrev pub full_count : ℕ → List ℕ → ℕ
 full_count greatest levels = count_by (λ level. level == greatest) levels
 
-abbrev pub entry_with : ℕ → ℕ → Option Value → Entry
-entry_with r d v = record { repetition = r; definition = d; value = v }
+abbrev pub triple_with : ℕ → ℕ → Option Value → Triple
+triple_with r d v = record { repetition = r; definition = d; value = v }
 
 -- a triple that has the next value
-abbrev pub full_triple : ℕ → ℕ → List Value → Option (Entry × List Value)
+abbrev pub full_triple : ℕ → ℕ → List Value → Option (Triple × List Value)
 full_triple r d [] = None
-full_triple r d (v ∷ vs) = Some (entry_with r d (Some v), vs)
+full_triple r d (v ∷ vs) = Some (triple_with r d (Some v), vs)
 
 -- A triple of two levels, which are at most the greatest, and the values behind it. With the greatest definition level it has a value.
-abbrev pub one_triple : ℕ → ℕ → ℕ → ℕ → List Value → Option (Entry × List Value)
-one_triple rep def r d vs = if nat_le r rep && nat_le d def then (if d == def then full_triple r d vs else Some (entry_with r d None, vs)) else None
+abbrev pub one_triple : ℕ → ℕ → ℕ → ℕ → List Value → Option (Triple × List Value)
+one_triple rep def r d vs = if nat_le r rep && nat_le d def then (if d == def then full_triple r d vs else Some (triple_with r d None, vs)) else None
 
 -- triples of levels and values, and no value is left
 abbrev pub zipped : ℕ → ℕ → List ℕ → List ℕ → List Value → Option Column

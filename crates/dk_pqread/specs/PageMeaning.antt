@@ -2,11 +2,11 @@
 use Rattle.std.specs.Prelude.{◌≡◌, ℕ, Bool, true, false, IsTrue, ℤ, Option, Some, List, length, ◌++◌}
 use Rattle.dk_pqmodel.specs.Datum.{Value, Column}
 use Rattle.dk_pqmodel.specs.FilePages.{ColumnAt, HoldTriples}
-use Rattle.dk_pages.specs.Pages.{Page}
+use Rattle.dk_pqmodel.specs.Pages.{Page}
 use Rattle.dk_pages.specs.Split.{Parts, split_of}
-use Rattle.dk_pages.specs.declared.header.PageKind.{PageKind}
-use Rattle.dk_pages.specs.declared.header.PageKind.TheVariants.{DataV1, DataV2, Dictionary}
-use Rattle.dk_pqread.specs.Scans.{is_level_code}
+use Rattle.dk_pqmodel.specs.declared.page.PageKind.{PageKind}
+use Rattle.dk_pqmodel.specs.declared.page.PageKind.TheVariants.{DataV1, DataV2, Dictionary}
+use Rattle.dk_pqmodel.specs.Scans.{is_level_code}
 
 abbrev pub is_data : PageKind → Bool
 is_data DataV1 = true

@@ -1,8 +1,8 @@
 -- What is read of a file, as plain data.
 use Rattle.std.specs.Prelude.{List, [], ◌∷◌, map, string_bytes, String}
 use Rattle.std.specs.declared.alloc.Global.{Global}
-use Rattle.dk_pqmodel.specs.Laid as laid
-use Rattle.dk_pqmodel.specs.Laid.{Path, Plan, Plans, no_plans, one_plan}
+use Rattle.dk_pqmodel.specs.Projection as plain
+use Rattle.dk_pqmodel.specs.Projection.{Path, Plan, Plans, no_plans, one_plan}
 use Rattle.dk_pqread.specs.LeafView.{leaf_of}
 use Rattle.dk_pqread.specs.declared.plan.Plan as code
 use Rattle.dk_pqread.specs.declared.plan.Plan.{fold-Plan}
@@ -17,11 +17,11 @@ plans_of_list [] = no_plans
 plans_of_list (p ∷ ps) = one_plan p (plans_of_list ps)
 
 abbrev pub plan_step : Plan-F Plan → Plan
-plan_step Plan-F.Missing = laid.missing
-plan_step (Plan-F.Value optional kind path) = laid.value optional (leaf_of kind) (path_of path.items)
-plan_step (Plan-F.Members optional plans) = laid.members optional (plans_of_list plans.items)
-plan_step (Plan-F.Elements optional plan) = laid.elements optional plan.value
-plan_step (Plan-F.Entries optional key_optional path value) = laid.entries optional key_optional (path_of path.items) value.value
+plan_step Plan-F.Missing = plain.missing
+plan_step (Plan-F.Value optional kind path) = plain.value optional (leaf_of kind) (path_of path.items)
+plan_step (Plan-F.Members optional plans) = plain.members optional (plans_of_list plans.items)
+plan_step (Plan-F.Elements optional plan) = plain.elements optional plan.value
+plan_step (Plan-F.Entries optional key_optional path value) = plain.entries optional key_optional (path_of path.items) value.value
 
 abbrev pub plan_of : code.Plan → Plan
 plan_of = fold-Plan Plan plan_step

@@ -1,17 +1,10 @@
--- What the wanted rows of row groups and of a file are, and what reading a file answers.
-use Rattle.std.specs.Prelude.{◌≡◌, ℕ, zero, suc, ℤ, Some, Result, Ok, Err, List, Vec}
-use Rattle.std.specs.declared.alloc.Global.{Global}
+-- What the wanted rows of row groups are.
+use Rattle.std.specs.Prelude.{◌≡◌, ℕ, zero, suc, Some, List}
 use Rattle.dk_pqmodel.specs.Shape.{Fields}
 use Rattle.dk_pqmodel.specs.Datum.{group, Cells, no_cells, one_cell, appended}
 use Rattle.dk_pqmodel.specs.Footer.{RowGroup}
-use Rattle.dk_pqmodel.specs.FooterBytes.{IsFramed}
-use Rattle.dk_pqmodel.specs.FileMeans.{HasRows, HaveRows, all_rows, FileMeans}
-use Rattle.dk_pqmodel.specs.Laid.{Plans, rows_widened}
-use Rattle.dk_pqmodel.specs.RowView.{rows_of}
-use Rattle.dk_pqmodel.specs.declared.row.Row.{Row}
-use Rattle.dk_pqmodel.specs.declared.fault.PqFault.{PqFault}
-use Rattle.dk_pqmodel.specs.declared.fault.PqFault.TheVariants.{Broken}
-use Rattle.dk_pqread.specs.Faults.{DiffersAt, IsCompressed, IsUnread, IsRefused}
+use Rattle.dk_pqmodel.specs.FileMeans.{HasRows, HaveRows, all_rows}
+use Rattle.dk_pqmodel.specs.Projection.{Plans, rows_widened}
 
 -- so many rows without a cell
 abbrev pub empty_rows : ℕ → Cells
@@ -33,17 +26,3 @@ pub record GroupsMean (before : List ℕ) (plans : Plans) (groups : List RowGrou
 -- rows of the sort, behind those before
 abbrev pub AddsRows : Cells → (Cells → Type 0) → Cells → Type 0
 AddsRows before Means after = (more : Cells) × (after ≡ appended before more) × Means more
-
--- No rows are meant, and the file is framed, no wanted leaf differs, and none is compressed or has an encoding that isn't read.
-pub record IsBroken (wanted : Fields) (bytes : List ℕ) : Type 0 where
-  pub nothing : (rows : Cells) → FileMeans wanted bytes rows → ⊥
-  pub framed : (before : List ℕ) × (part : List ℕ) × IsFramed bytes before part
-  pub fitting : (column : List ℕ) → DiffersAt wanted bytes column → ⊥
-  pub plain : (column : List ℕ) (codec : ℤ) → IsCompressed wanted bytes column codec → ⊥
-  pub read : (column : List ℕ) (code : ℤ) → IsUnread wanted bytes column code → ⊥
-
--- The rows that the file means; or the first of the causes for which none are answered, `Broken` being the last; or want of memory.
-abbrev pub Reads : Fields → List ℕ → Result (Vec Row Global) PqFault → Type 0
-Reads wanted bytes (Ok rows) = FileMeans wanted bytes (rows_of rows.items)
-Reads wanted bytes (Err Broken) = IsBroken wanted bytes
-Reads wanted bytes (Err fault) = IsRefused wanted bytes fault

@@ -1,7 +1,7 @@
 //! The part of the file's own schema that is read, as nodes.
 
 ghost use Rattle.std.specs.Prelude.{◌≡◌, [], IfOk, OnOk, option_map};
-ghost use Rattle.dk_pqmodel.specs.Laid.{cut_of, cuts_of, file_entry};
+ghost use Rattle.dk_pqmodel.specs.Projection.{projected_field, projected_fields, file_entry};
 ghost use Rattle.dk_pqmodel.specs.NodeView.{field_of, fields_of, shape_of};
 ghost use Rattle.dk_pqmodel.specs.Shape.{field, leaf, list as shape_list};
 ghost use Rattle.dk_pqread.specs.Lays.{AddsField};
@@ -16,7 +16,7 @@ use std::alloc::{AllocError, Global};
 /// The nodes of what is read, without those that the file lacks.
 #[cycle(cut)]
 pub(crate) fn cut_all(plans: &[Plan], alloc: Global) -> Result<Vec<Node>, AllocError>
-    ensures { IfOk result (λ v. fields_of v.items ≡ cuts_of (plans_of plans.now)) }
+    ensures { IfOk result (λ v. fields_of v.items ≡ projected_fields (plans_of plans.now)) }
 {
     let mut nodes = Vec::new(alloc);
     for plan in plans {
@@ -41,7 +41,7 @@ fn add_node(nodes: &mut Vec<Node>, node: Option<Node>) -> Result<(), AllocError>
 /// The node of what is read for a plan; `None` where it is nothing.
 #[cycle(cut)]
 fn cut(plan: &Plan, alloc: Global) -> Result<Option<Node>, AllocError>
-    ensures { IfOk result (λ o. option_map field_of o ≡ cut_of (plan_of plan.now)) }
+    ensures { IfOk result (λ o. option_map field_of o ≡ projected_field (plan_of plan.now)) }
 {
     match plan {
         Plan::Missing => Ok(None),

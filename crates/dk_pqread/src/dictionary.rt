@@ -10,8 +10,8 @@ ghost use Rattle.dk_pqread.specs.Meanings.{Finds};
 use crate::leaf::Leaf;
 use crate::plain::plain_values;
 use crate::scan::{PLAIN, PLAIN_DICTIONARY};
-use dk_pages::{PageKind, PageView};
-use dk_pqmodel::{PqFault, Value};
+use dk_pages::PageView;
+use dk_pqmodel::{PageKind, PqFault, Value};
 use std::alloc::Global;
 
 /// The entries of a dictionary page: exactly as many as it says, and nothing behind them.

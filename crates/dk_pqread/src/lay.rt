@@ -2,11 +2,11 @@
 
 ghost use Rattle.std.specs.Prelude.{◌≡◌, [], ◌∷◌, ◌++◌, IfOk, codes, option_map};
 ghost use Rattle.dk_pqmodel.specs.FileSchema.{is_optional, node_name};
-ghost use Rattle.dk_pqmodel.specs.Laid.{elements_of, entries as laid_entries, first_leaf, first_leaf_of, laid_at, laid_each, laid_in, laid_named, members_of, misfit_at, misfit_each, misfit_in, misfit_named};
+ghost use Rattle.dk_pqmodel.specs.Projection.{elements_of, entries as laid_entries, first_leaf, first_leaf_of, projection_at, projection_each, projection_in, projection_named, members_of, misfit_at, misfit_each, misfit_in, misfit_named};
 ghost use Rattle.dk_pqmodel.specs.NodeView.{field_of, fields_of, shape_of};
-ghost use Rattle.dk_pqmodel.specs.Shape.{dictionary, group, leaf, list};
+ghost use Rattle.dk_pqmodel.specs.Shape.{map_of, group, leaf, list};
 ghost use Rattle.dk_pqmeta.specs.View.{node_of, nodes_of};
-ghost use Rattle.dk_pqread.specs.Inner.{Pair, Triple, element_nodes, entry_nodes};
+ghost use Rattle.dk_pqread.specs.Inner.{Pair, EntryNodes, element_nodes, entry_nodes};
 ghost use Rattle.dk_pqread.specs.LeafView.{leaf_of};
 ghost use Rattle.dk_pqread.specs.Lays.{Lays};
 ghost use Rattle.dk_pqread.specs.PlanView.{path_of, plan_of, plans_of};
@@ -32,7 +32,7 @@ fn lay_kind(
     written: &[String],
     node: &FileNode,
 ) -> Result<Plan, LayFault>
-    ensures { Lays plan_of result (misfit_at (shape_of kind.now) (path_of written.now) (node_of node.now)) (laid_at (shape_of kind.now) (path_of path.now) (node_of node.now)) }
+    ensures { Lays plan_of result (misfit_at (shape_of kind.now) (path_of written.now) (node_of node.now)) (projection_at (shape_of kind.now) (path_of path.now) (node_of node.now)) }
 {
     match kind {
         NodeKind::Flag => lay_leaf(alloc, Leaf::Flag, path, written, node),
@@ -53,7 +53,7 @@ fn lay_leaf(
     written: &[String],
     node: &FileNode,
 ) -> Result<Plan, LayFault>
-    ensures { Lays plan_of result (misfit_at (leaf (leaf_of wanted)) (path_of written.now) (node_of node.now)) (laid_at (leaf (leaf_of wanted)) (path_of path.now) (node_of node.now)) }
+    ensures { Lays plan_of result (misfit_at (leaf (leaf_of wanted)) (path_of written.now) (node_of node.now)) (projection_at (leaf (leaf_of wanted)) (path_of path.now) (node_of node.now)) }
 {
     let Some(kind) = leaf_kind(wanted, node) else {
         return Err(LayFault::Shape(copy_path(alloc, written)?));
@@ -74,7 +74,7 @@ fn lay_group(
     written: &[String],
     node: &FileNode,
 ) -> Result<Plan, LayFault>
-    ensures { Lays plan_of result (misfit_at (group (fields_of nodes.now)) (path_of written.now) (node_of node.now)) (laid_at (group (fields_of nodes.now)) (path_of path.now) (node_of node.now)) }
+    ensures { Lays plan_of result (misfit_at (group (fields_of nodes.now)) (path_of written.now) (node_of node.now)) (projection_at (group (fields_of nodes.now)) (path_of path.now) (node_of node.now)) }
 {
     let Some(inner) = group_nodes(node) else {
         return Err(LayFault::Shape(first_leaf_of(nodes, alloc, written)?));
@@ -92,7 +92,7 @@ pub(crate) fn lay_nodes(
     written: &[String],
     inner: &[FileNode],
 ) -> Result<Vec<Plan>, LayFault>
-    ensures { Lays (λ v. plans_of v.items) result (misfit_each (fields_of nodes.now) (path_of written.now) (nodes_of inner.now)) (laid_each (fields_of nodes.now) (path_of path.now) (nodes_of inner.now)) }
+    ensures { Lays (λ v. plans_of v.items) result (misfit_each (fields_of nodes.now) (path_of written.now) (nodes_of inner.now)) (projection_each (fields_of nodes.now) (path_of path.now) (nodes_of inner.now)) }
 {
     let mut plans = Vec::new(alloc);
     for node in nodes {
@@ -109,7 +109,7 @@ fn lay_named(
     written: &[String],
     inner: &[FileNode],
 ) -> Result<Plan, LayFault>
-    ensures { Lays plan_of result (misfit_named (field_of node.now) (path_of written.now) (nodes_of inner.now)) (laid_named (field_of node.now) (path_of path.now) (nodes_of inner.now)) }
+    ensures { Lays plan_of result (misfit_named (field_of node.now) (path_of written.now) (nodes_of inner.now)) (projection_named (field_of node.now) (path_of path.now) (nodes_of inner.now)) }
 {
     let Some(own) = named(&node.name, inner) else {
         return Ok(Plan::Missing);
@@ -127,7 +127,7 @@ fn lay_list(
     written: &[String],
     node: &FileNode,
 ) -> Result<Plan, LayFault>
-    ensures { Lays plan_of result (misfit_at (list (field_of element.now)) (path_of written.now) (node_of node.now)) (laid_at (list (field_of element.now)) (path_of path.now) (node_of node.now)) }
+    ensures { Lays plan_of result (misfit_at (list (field_of element.now)) (path_of written.now) (node_of node.now)) (projection_at (list (field_of element.now)) (path_of path.now) (node_of node.now)) }
 {
     let written = below_two(alloc, written, "list", "element")?;
     let Some((repeated, inner)) = element_node(node) else {
@@ -146,7 +146,7 @@ fn lay_map(
     written: &[String],
     node: &FileNode,
 ) -> Result<Plan, LayFault>
-    ensures { Lays plan_of result (misfit_at (dictionary (field_of value.now)) (path_of written.now) (node_of node.now)) (laid_at (dictionary (field_of value.now)) (path_of path.now) (node_of node.now)) }
+    ensures { Lays plan_of result (misfit_at (map_of (field_of value.now)) (path_of written.now) (node_of node.now)) (projection_at (map_of (field_of value.now)) (path_of path.now) (node_of node.now)) }
 {
     let Some((repeated, key, inner)) = entry_nodes(node) else {
         return Err(LayFault::Shape(below_two(alloc, written, "key_value", "key")?));
@@ -166,7 +166,7 @@ fn lay_value(
     inner: &FileNode,
 ) -> Result<Plan, LayFault>
     ensures { Lays plan_of result (misfit_in (field_of value.now) (path_of written.now ++ (codes "key_value" ∷ codes "value" ∷ [])) (node_of inner.now))
-        (laid_in (field_of value.now) (path_of path.now ++ (node_name (node_of repeated.now) ∷ node_name (node_of inner.now) ∷ [])) (node_of inner.now)) }
+        (projection_in (field_of value.now) (path_of path.now ++ (node_name (node_of repeated.now) ∷ node_name (node_of inner.now) ∷ [])) (node_of inner.now)) }
 {
     let written = below_two(alloc, written, "key_value", "value")?;
     let path = below_two(alloc, path, &repeated.name, &inner.name)?;
@@ -184,7 +184,7 @@ fn element_node(node: &FileNode) -> Option<(&FileNode, &FileNode)>
 
 /// The repeated node of a map, and its key and value. The key is a text.
 fn entry_nodes(node: &FileNode) -> Option<(&FileNode, &FileNode, &FileNode)>
-    ensures { option_map {U = Triple} (λ x. (node_of x.0.now, node_of x.1.now, node_of x.2.now)) result ≡ entry_nodes (node_of node.now) }
+    ensures { option_map {U = EntryNodes} (λ x. (node_of x.0.now, node_of x.1.now, node_of x.2.now)) result ≡ entry_nodes (node_of node.now) }
 {
     let repeated = repeated_node(node)?;
     let (key, value) = two_nodes(repeated)?;

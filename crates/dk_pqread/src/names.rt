@@ -1,7 +1,7 @@
 //! Paths: the names from the top of a schema to a column.
 
 ghost use Rattle.std.specs.Prelude.{◌≡◌, [], ◌∷◌, ◌++◌, IfOk, string_bytes};
-ghost use Rattle.dk_pqmodel.specs.Laid.{dotted};
+ghost use Rattle.dk_pqmodel.specs.Projection.{dotted};
 ghost use Rattle.dk_pqread.specs.PlanView.{path_of};
 
 use std::alloc::{AllocError, Global};

@@ -13,8 +13,8 @@ use crate::runs::{count_full, read_levels};
 use crate::scan::is_level_code;
 use crate::values::read_values;
 use crate::zip::add_triples;
-use dk_pages::{PageKind, PageView, Split};
-use dk_pqmodel::{PqFault, Triple, Value};
+use dk_pages::{PageView, Split};
+use dk_pqmodel::{PageKind, PqFault, Triple, Value};
 use std::alloc::Global;
 
 /// Adds the triples of a data page.

@@ -1,7 +1,7 @@
 //! What is read of a file for wanted fields.
 
 ghost use Rattle.std.specs.Prelude.{◌≡◌};
-ghost use Rattle.dk_pqmodel.specs.Laid.{all_missing, is_missing};
+ghost use Rattle.dk_pqmodel.specs.Projection.{all_missing, is_missing};
 ghost use Rattle.dk_pqread.specs.PlanView.{plan_of, plans_of};
 
 use crate::leaf::Leaf;

@@ -6,7 +6,7 @@ ghost use Rattle.dk_pqmodel.specs.FileMeans.{FileMeans};
 ghost use Rattle.dk_pqmodel.specs.RowView.{rows_of};
 ghost use Rattle.dk_pqmodel.specs.SchemaView.{fields_in};
 ghost use Rattle.dk_levels.specs.Answers.{GivesMeant};
-ghost use Rattle.dk_pqread.specs.RowsMeaning.{Reads};
+ghost use Rattle.dk_pqmodel.specs.Reads.{Reads};
 
 use crate::counts::counts_agree;
 use crate::examine::{Examined, before_footer, examine};

@@ -5,7 +5,7 @@ ghost use Rattle.dk_levels.specs.Solid.{IsReadable};
 ghost use Rattle.dk_pqmeta.specs.View.{group_view};
 ghost use Rattle.dk_pqmodel.specs.FileMeans.{HasRows, columns_of};
 ghost use Rattle.dk_pqmodel.specs.Footer.{is_new_each};
-ghost use Rattle.dk_pqmodel.specs.Laid.{all_missing, cuts_of, rows_widened};
+ghost use Rattle.dk_pqmodel.specs.Projection.{all_missing, projected_fields, rows_widened};
 ghost use Rattle.dk_pqmodel.specs.NodeView.{fields_of};
 ghost use Rattle.dk_pqmodel.specs.RowView.{rows_of};
 ghost use Rattle.dk_pqread.specs.Cells.{cells_then};
@@ -35,7 +35,7 @@ pub(crate) fn read_groups(
     groups: &[RowGroup],
 ) -> Result<Vec<Row>, PqFault>
     requires read { map column_at columns.now ≡ columns_of (plans_of plans.now) 0 0 }
-    requires readable { all_missing (plans_of plans.now) ≡ false → IsReadable (cuts_of (plans_of plans.now)) }
+    requires readable { all_missing (plans_of plans.now) ≡ false → IsReadable (projected_fields (plans_of plans.now)) }
     // No two chunks of a group have one path, as in every footer.
     requires distinct { All (λ group. IsTrue (is_new_each [] (group_view group).columns)) groups.now }
     ensures { Finds (λ v. rows_of v.items) result (GroupsMean before.now (plans_of plans.now) (map group_view groups.now)) }
@@ -59,8 +59,8 @@ fn add_group(
     group: &RowGroup,
 ) -> Result<(), PqFault>
     requires read { map column_at columns.now ≡ columns_of (plans_of plans.now) 0 0 }
-    requires cut { fields_of nodes.now ≡ cuts_of (plans_of plans.now) }
-    requires readable { all_missing (plans_of plans.now) ≡ false → IsReadable (cuts_of (plans_of plans.now)) }
+    requires cut { fields_of nodes.now ≡ projected_fields (plans_of plans.now) }
+    requires readable { all_missing (plans_of plans.now) ≡ false → IsReadable (projected_fields (plans_of plans.now)) }
     requires distinct { IsTrue (is_new_each [] (group_view group.now).columns) }
     ensures { Finds (λ _. rows_of rows.new.items) result (AddsRows (rows_of rows.old.items) (GroupMeans before.now (plans_of plans.now) (group_view group.now))) }
 {
@@ -78,8 +78,8 @@ fn own_rows(
     group: &RowGroup,
 ) -> Result<Vec<Row>, PqFault>
     requires read { map column_at columns.now ≡ columns_of (plans_of plans.now) 0 0 }
-    requires cut { fields_of nodes.now ≡ cuts_of (plans_of plans.now) }
-    requires readable { all_missing (plans_of plans.now) ≡ false → IsReadable (cuts_of (plans_of plans.now)) }
+    requires cut { fields_of nodes.now ≡ projected_fields (plans_of plans.now) }
+    requires readable { all_missing (plans_of plans.now) ≡ false → IsReadable (projected_fields (plans_of plans.now)) }
     requires distinct { IsTrue (is_new_each [] (group_view group.now).columns) }
     ensures { Finds (λ v. rows_of v.items) result (HasRows before.now (plans_of plans.now) (group_view group.now)) }
 {

@@ -6,11 +6,11 @@ ghost use Rattle.dk_pqmeta.specs.View.{chunk_view, group_view};
 ghost use Rattle.dk_pqread.specs.ColumnView.{column_at};
 ghost use Rattle.dk_pqread.specs.LeafView.{leaf_of};
 ghost use Rattle.dk_pqread.specs.PlanView.{path_of};
-ghost use Rattle.dk_pqread.specs.Scans.{chunk_at, code_in, codec_in, codec_of, first_compressed, first_place, first_unread, is_level_code, is_read, is_value_code, unread_code, unread_in, values_in};
+ghost use Rattle.dk_pqmodel.specs.Scans.{chunk_at, code_in, codec_in, codec_of, first_compressed, first_place, first_unread, is_level_code, is_read, is_value_code, unread_code, unread_in, values_in};
 
 use crate::column::Column;
 use crate::leaf::Leaf;
-use dk_pages::{PageKind, PageView, next_page};
+use dk_pages::{PageView, next_page};
 use dk_pqmeta::{Chunk, RowGroup};
 
 /// The codes of the encodings that are read.

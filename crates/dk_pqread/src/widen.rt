@@ -3,7 +3,7 @@
 ghost use Rattle.std.specs.Prelude.{◌≡◌, ◌<◌, IfOk, length, option_map, slice_index_or, slice_set};
 ghost use Rattle.std.specs.Vec.Iter.{into_iter_items};
 ghost use Rattle.dk_pqmodel.specs.Datum.{group, one_cell, no_cells};
-ghost use Rattle.dk_pqmodel.specs.Laid.{in_group, in_list, is_missing, pair_of, turned_all, widened, widened_each};
+ghost use Rattle.dk_pqmodel.specs.Projection.{in_group, in_list, is_missing, pair_of, turned_all, widened, widened_each};
 ghost use Rattle.dk_pqmodel.specs.RowView.{cells_of, datum_of};
 ghost use Rattle.dk_pqread.specs.Cells.{first_cell, is_atom, key_and_value, taken_for, value_for};
 ghost use Rattle.dk_levels.specs.Answers.{GivesMeant};

@@ -2,7 +2,7 @@
 
 ghost use Rattle.std.specs.Prelude.{◌≡◌, ◌<◌, MatchOption, Some, length, map, slice_get, vec_len};
 ghost use Rattle.dk_levels.specs.Answers.{GivesMeant};
-ghost use Rattle.dk_pqmodel.specs.ColumnView.{column_of, entry_of, value_of};
+ghost use Rattle.dk_pqmodel.specs.ColumnView.{column_of, triple_of, value_of};
 ghost use Rattle.dk_pqread.specs.Meanings.{levels_of, one_triple, triples_then, zipped};
 ghost use Rattle.std.specs.Vec.Iter.{into_iter_items};
 
@@ -56,7 +56,7 @@ fn triple(
     definition: u32,
     values: &mut IntoIter<Value>,
 ) -> Result<Triple, PqFault>
-    ensures { GivesMeant (λ t. (entry_of t, map value_of (into_iter_items values.new))) result
+    ensures { GivesMeant (λ t. (triple_of t, map value_of (into_iter_items values.new))) result
         (one_triple column.now.rep column.now.def repetition definition (map value_of (into_iter_items values.old))) }
 {
     if repetition > u32::from(column.rep) || definition > u32::from(column.def) {

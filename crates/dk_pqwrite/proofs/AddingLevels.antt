@@ -3,7 +3,7 @@ use Rattle.std.proofs.Common.{◌≡◌, ◌+◌, ◌*◌, ℕ, ◌≤◌, ◌++
 use Rattle.std.specs.List.{All}
 use Rattle.std.proofs.lemmas.List.{append-nil, length-append, length-map}
 use Rattle.std.proofs.lemmas.List.Elements.{All-head, All-tail}
-use Rattle.dk_pqmodel.specs.Datum.{Column, Entry}
+use Rattle.dk_pqmodel.specs.Datum.{Column, Triple}
 use Rattle.dk_pqwrite.specs.AddedLevels.{AddsLevels}
 use Rattle.dk_pqwrite.specs.DataPages.{HoldBoth}
 use Rattle.dk_pqwrite.specs.declared.column.LeafColumn.{LeafColumn}
@@ -24,8 +24,8 @@ no_levels greatest levels old none within = record {
   size = omega arith;
 }
 
-pub both_levels : (column : LeafColumn) (entries : Column) (old mid new : List ℕ) → old ≡ [] → AddsLevels column.rep (map (λ (e : Entry). e.repetition) entries) old mid
-    → AddsLevels column.def (map (λ (e : Entry). e.definition) entries) mid new → HoldBoth column entries new
+pub both_levels : (column : LeafColumn) (entries : Column) (old mid new : List ℕ) → old ≡ [] → AddsLevels column.rep (map (λ (e : Triple). e.repetition) entries) old mid
+    → AddsLevels column.def (map (λ (e : Triple). e.definition) entries) mid new → HoldBoth column entries new
 both_levels column entries old mid new none first later =
     let whole : new ≡ first.part ++ later.part = later.added ∙ ap (λ front. front ++ later.part) (first.added ∙ ap (λ front. front ++ first.part) none) in record {
       rep_part = first.part;
@@ -39,8 +39,8 @@ both_levels column entries old mid new none first later =
       definitions = later.held;
       size =
           let counted : length new ≡ length first.part + length later.part = ap length whole ∙ length-append first.part later.part in
-          let reps : length (map (λ (e : Entry). e.repetition) entries) ≡ length entries = length-map entries (λ (e : Entry). e.repetition) in
-          let defs : length (map (λ (e : Entry). e.definition) entries) ≡ length entries = length-map entries (λ (e : Entry). e.definition) in
+          let reps : length (map (λ (e : Triple). e.repetition) entries) ≡ length entries = length-map entries (λ (e : Triple). e.repetition) in
+          let defs : length (map (λ (e : Triple). e.definition) entries) ≡ length entries = length-map entries (λ (e : Triple). e.definition) in
           let some : length first.part ≤ 44 + 5 * length entries = rw (sym reps) first.size in
           let more : length later.part ≤ 44 + 5 * length entries = rw (sym defs) later.size in
           omega arith;

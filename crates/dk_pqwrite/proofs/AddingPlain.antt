@@ -15,11 +15,11 @@ use Rattle.dk_grammar.specs.Plain as plain
 use Rattle.dk_grammar.proofs.Digits.{length-digits_of}
 use Rattle.dk_pqmodel.specs.Shape.{Leaf, flag, int32, int64, chars}
 use Rattle.dk_pqmodel.specs.Datum as cell
-use Rattle.dk_pqmodel.specs.Datum.{Value, Entry, Column}
+use Rattle.dk_pqmodel.specs.Datum.{Value, Triple, Column}
 use Rattle.dk_pqmodel.specs.Fits.{fits_leaf, in_i32}
 use Rattle.dk_pqmodel.specs.FilePages.{IsPlainOf, ArePlainOf, InPlain}
 use Rattle.dk_pqmodel.specs.Weight.{text_length}
-use Rattle.dk_levels.specs.Borrowed.{entry_of, value_of}
+use Rattle.dk_levels.specs.Borrowed.{triple_of, value_of}
 use Rattle.dk_levels.specs.declared.borrowed.BorrowedTriple.{BorrowedTriple}
 use Rattle.dk_pqwrite.specs.Adding.{Adds}
 use Rattle.dk_pqwrite.specs.PlainValues.{ArePlain, FitsEntry, flag_of, flags_in, plain_size}
@@ -116,32 +116,32 @@ single None = refl
 single (Some x) = refl
 
 module _ (triples : List BorrowedTriple) (i : ℕ) (t : BorrowedTriple) (within : i < length triples) (there : t ≡ get_or triples i t) where
-  pub entries_more : map entry_of (take (i + 1) triples) ≡ map entry_of (take i triples) ++ entry_of t ∷ []
+  pub entries_more : map triple_of (take (i + 1) triples) ≡ map triple_of (take i triples) ++ triple_of t ∷ []
   entries_more =
       let one_more : take (suc i) triples ≡ take i triples ++ get_or triples i t ∷ [] = take-suc triples i t within in
-      rw (add-one i, one_more, ← there) (map-append entry_of (take i triples) (t ∷ []))
+      rw (add-one i, one_more, ← there) (map-append triple_of (take i triples) (t ∷ []))
 
-  pub flags_more : (b : Option Bool) → b ≡ option_and_then flag_of (entry_of t).value → flags_in (map entry_of (take (i + 1) triples)) ≡ flags_in (map entry_of (take i triples)) ++ option_to_list b
+  pub flags_more : (b : Option Bool) → b ≡ option_and_then flag_of (triple_of t).value → flags_in (map triple_of (take (i + 1) triples)) ≡ flags_in (map triple_of (take i triples)) ++ option_to_list b
   flags_more b e =
-      let both = filter_map-append (λ (x : Entry). option_and_then flag_of x.value) (map entry_of (take i triples)) (entry_of t ∷ []) in
-      rw (entries_more, e) (both ∙ ap (λ xs. flags_in (map entry_of (take i triples)) ++ xs) (single (option_and_then flag_of (entry_of t).value)))
+      let both = filter_map-append (λ (x : Triple). option_and_then flag_of x.value) (map triple_of (take i triples)) (triple_of t ∷ []) in
+      rw (entries_more, e) (both ∙ ap (λ xs. flags_in (map triple_of (take i triples)) ++ xs) (single (option_and_then flag_of (triple_of t).value)))
 
-  values_more : values_in (map entry_of (take (i + 1) triples)) ≡ values_in (map entry_of (take i triples)) ++ option_to_list (value_of t.value)
+  values_more : values_in (map triple_of (take (i + 1) triples)) ≡ values_in (map triple_of (take i triples)) ++ option_to_list (value_of t.value)
   values_more =
-      let both = filter_map-append (λ (x : Entry). x.value) (map entry_of (take i triples)) (entry_of t ∷ []) in
-      rw entries_more (both ∙ ap (λ xs. values_in (map entry_of (take i triples)) ++ xs) (single (value_of t.value)))
+      let both = filter_map-append (λ (x : Triple). x.value) (map triple_of (take i triples)) (triple_of t ∷ []) in
+      rw entries_more (both ∙ ap (λ xs. values_in (map triple_of (take i triples)) ++ xs) (single (value_of t.value)))
 
 module _ (kind : Leaf) (triples : List BorrowedTriple) (i : ℕ) (t : BorrowedTriple) (within : i < length triples) (there : t ≡ get_or triples i t) where
-  pub fits_there : All (FitsEntry kind) (map entry_of triples) → FitsEntry kind (entry_of t)
+  pub fits_there : All (FitsEntry kind) (map triple_of triples) → FitsEntry kind (triple_of t)
   fits_there h =
-      let here = All-get_or (FitsEntry kind) (map entry_of triples) i (entry_of t) (rw length-map within) h in
-      rw (get_or-map entry_of triples i t (entry_of t) within, ← there) at here
+      let here = All-get_or (FitsEntry kind) (map triple_of triples) i (triple_of t) (rw length-map within) h in
+      rw (get_or-map triple_of triples i t (triple_of t) within, ← there) at here
 
-  pub value_more : (old mid new : List ℕ) → Adds (ArePlain kind (values_in (map entry_of (take i triples)))) (plain_size (values_in (map entry_of (take i triples)))) old mid
+  pub value_more : (old mid new : List ℕ) → Adds (ArePlain kind (values_in (map triple_of (take i triples)))) (plain_size (values_in (map triple_of (take i triples)))) old mid
       → Adds (ArePlain kind (option_to_list (value_of t.value))) (plain_size (option_to_list (value_of t.value))) mid new
-      → Adds (ArePlain kind (values_in (map entry_of (take (i + 1) triples)))) (plain_size (values_in (map entry_of (take (i + 1) triples)))) old new
+      → Adds (ArePlain kind (values_in (map triple_of (take (i + 1) triples)))) (plain_size (values_in (map triple_of (take (i + 1) triples)))) old new
   value_more old mid new h g =
-      rw (values_more triples i t within there) (both_plain kind (values_in (map entry_of (take i triples))) (option_to_list (value_of t.value)) old mid new h g)
+      rw (values_more triples i t within there) (both_plain kind (values_in (map triple_of (take i triples))) (option_to_list (value_of t.value)) old mid new h g)
 
 -- ---- flags
 

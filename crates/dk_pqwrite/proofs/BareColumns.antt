@@ -1,11 +1,11 @@
 -- The columns of a schema by their kinds and levels alone.
 use Rattle.std.proofs.Common.{◌≡◌, ◌≤◌, ℕ, ◌+◌, Bool, true, false, List, [], ◌∷◌, ◌++◌, length, map, codes, refl, sym, ap, ap₂, ◌∙◌, arith}
 use Rattle.std.proofs.lemmas.List.{append-nil, map-append, length-append, length-map}
-use Rattle.dk_pqmodel.specs.Shape.{Leaf, chars, Shape, leaf, dictionary, Field, field, Fields, no_fields, one_field, entry, width_at, width_in, width_of}
+use Rattle.dk_pqmodel.specs.Shape.{Leaf, chars, Shape, leaf, map_of, Field, field, Fields, no_fields, one_field, entry, width_at, width_in, width_of}
 use Rattle.dk_pqmodel.specs.Shape as shape
 use Rattle.dk_pqmodel.specs.FileMeans.{one_if, columns_in, columns_of}
 use Rattle.dk_pqmodel.specs.FilePages.{ColumnAt}
-use Rattle.dk_pqmodel.specs.Laid.{Path}
+use Rattle.dk_pqmodel.specs.Projection.{Path}
 use Rattle.dk_pqmodel.specs.Triples.{reached}
 use Rattle.dk_pqwrite.specs.OverItself.{own_plan_at, own_plan_in, own_plan_named, own_plans}
 use Rattle.dk_pqwrite.proofs.Names.{Each, each_append, each_map}
@@ -20,7 +20,7 @@ abbrev mutual
   bare_columns_at (leaf l) k d = bare_column l k d ∷ []
   bare_columns_at (shape.group fs) k d = bare_columns_of fs k d
   bare_columns_at (shape.list f) k d = bare_columns_in f (k + 1) (d + 1)
-  bare_columns_at (dictionary f) k d = bare_column chars (k + 1) (d + 1) ∷ bare_columns_in f (k + 1) (d + 1)
+  bare_columns_at (map_of f) k d = bare_column chars (k + 1) (d + 1) ∷ bare_columns_in f (k + 1) (d + 1)
 
   pub bare_columns_in : Field → ℕ → ℕ → List ColumnAt
   bare_columns_in (field name nullable s) k d = bare_columns_at s k (reached (field name nullable s) d)
@@ -47,7 +47,7 @@ mutual
   bare_plan_at (leaf l) b path k d = refl
   bare_plan_at (shape.group fs) b path k d = bare_plans fs path k (d + one_if b)
   bare_plan_at (shape.list f) b path k d = bare_plan_in f (path ++ codes "list" ∷ codes "element" ∷ []) (k + 1) (d + one_if b + 1)
-  bare_plan_at (dictionary f) b path k d =
+  bare_plan_at (map_of f) b path k d =
       let key : d + one_if b + 1 + 0 ≡ d + one_if b + 1 = omega arith in
       ap₂ (λ level columns. bare_column chars (k + 1) level ∷ columns) key (bare_plan_in f (path ++ codes "key_value" ∷ codes "value" ∷ []) (k + 1) (d + one_if b + 1))
 
@@ -69,7 +69,7 @@ mutual
   count_at (leaf l) k d = refl
   count_at (shape.group fs) k d = count_each fs k d
   count_at (shape.list f) k d = count_in f (k + 1) (d + 1)
-  count_at (dictionary f) k d = omega (arith, count_in f (k + 1) (d + 1))
+  count_at (map_of f) k d = omega (arith, count_in f (k + 1) (d + 1))
 
   count_in : (f : Field) (k d : ℕ) → length (bare_columns_in f k d) ≡ width_in f
   count_in (field name b s) k d = count_at s k (reached (field name b s) d)
@@ -98,7 +98,7 @@ mutual
   beyond_at (leaf l) k d = ((omega arith, omega arith), tt)
   beyond_at (shape.group fs) k d = beyond_each fs k d
   beyond_at (shape.list f) k d = beyond_in f k (k + 1) d (d + 1) (omega arith) (omega arith)
-  beyond_at (dictionary f) k d = ((omega arith, omega arith), beyond_in f k (k + 1) d (d + 1) (omega arith) (omega arith))
+  beyond_at (map_of f) k d = ((omega arith, omega arith), beyond_in f k (k + 1) d (d + 1) (omega arith) (omega arith))
 
   beyond_in : (f : Field) (k l d e : ℕ) → k ≤ l → d ≤ e → Each (Beyond k d) (bare_columns_in f l e)
   beyond_in (field name b s) k l d e lists levels =

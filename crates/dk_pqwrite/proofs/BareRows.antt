@@ -1,16 +1,16 @@
 -- Rows by a schema without its names are those of the schema: they have its form, the same triples, and are turned into themselves.
 use Rattle.std.proofs.Common.{◌≡◌, ℕ, ◌+◌, Bool, [], ◌∷◌, ◌++◌, codes, Some, None, option_map, replicate, refl, sym, ap, ap₂, subst, ◌∙◌, arith}
 use Rattle.std.proofs.lemmas.Bool.{false≢true}
-use Rattle.dk_pqmodel.specs.Shape.{Leaf, Shape, leaf, dictionary, Field, field, Fields, no_fields, one_field, fields_at, element_at, shape_in, width_at, width_in, width_of, entry, root, name_in}
+use Rattle.dk_pqmodel.specs.Shape.{Leaf, Shape, leaf, map_of, Field, field, Fields, no_fields, one_field, fields_at, element_at, shape_in, width_at, width_in, width_of, entry, root, name_in}
 use Rattle.dk_pqmodel.specs.Shape as shape
-use Rattle.dk_pqmodel.specs.Datum.{Value, Datum, null, atom, group, list, Cells, no_cells, one_cell, one_entry}
+use Rattle.dk_pqmodel.specs.Datum.{Value, Datum, null, atom, group, list, Cells, no_cells, one_cell, single_triple}
 use Rattle.dk_pqmodel.specs.Fits.{CellBy, EachBy, AllBy, AreRowsOf, AreTriplesOf, is_of_kind}
 use Rattle.dk_pqmodel.specs.Schema.{IsSchema}
-use Rattle.dk_pqmodel.specs.Triples.{joined, empty_columns, nothing, reached, cell_triples, group_triples, list_triples, later_triples, triples}
-use Rattle.dk_pqmodel.specs.Laid.{Path, widened, widened_each, rows_widened, laid, cuts_of, turned_all, in_group, pair_of, both_read}
+use Rattle.dk_pqmodel.specs.Triples.{columns_joined, empty_columns, nothing, reached, cell_triples, group_triples, list_triples, later_triples, triples}
+use Rattle.dk_pqmodel.specs.Projection.{Path, widened, widened_each, rows_widened, projection, projected_fields, turned_all, in_group, pair_of, both_read}
 use Rattle.dk_pqwrite.specs.Written.{written_nodes}
 use Rattle.dk_pqwrite.specs.OverItself.{bare_at, bare_in, bare, own_plan_in, own_plan_named, own_plans}
-use Rattle.dk_pqwrite.proofs.Laid.{plan_there, laid_own, cut_is_bare}
+use Rattle.dk_pqwrite.proofs.OwnProjection.{plan_there, own_projection, projected_is_bare}
 
 -- ---- the same triples
 
@@ -22,7 +22,7 @@ mutual
   bare_width (leaf l) = refl
   bare_width (shape.group fs) = bare_widths fs
   bare_width (shape.list f) = bare_width_in f
-  bare_width (dictionary f) = no_more (width_in (bare_in f)) (width_in f) (bare_width_in f)
+  bare_width (map_of f) = no_more (width_in (bare_in f)) (width_in f) (bare_width_in f)
 
   bare_width_in : (f : Field) → width_in (bare_in f) ≡ width_in f
   bare_width_in (field name b s) = bare_width s
@@ -35,16 +35,16 @@ bare_fields : (s : Shape) → fields_at (bare_at s) ≡ bare (fields_at s)
 bare_fields (leaf l) = refl
 bare_fields (shape.group fs) = refl
 bare_fields (shape.list f) = refl
-bare_fields (dictionary f) = refl
+bare_fields (map_of f) = refl
 
 bare_element : (s : Shape) → element_at (bare_at s) ≡ bare_in (element_at s)
 bare_element (leaf l) = refl
 bare_element (shape.group fs) = refl
 bare_element (shape.list f) = refl
-bare_element (dictionary f) = refl
+bare_element (map_of f) = refl
 
 bare_nothing : (f : Field) (r d : ℕ) → nothing (shape_in (bare_in f)) r d ≡ nothing (shape_in f) r d
-bare_nothing (field name b s) r d = ap (λ n. replicate n (one_entry r d None)) (bare_width s)
+bare_nothing (field name b s) r d = ap (λ n. replicate n (single_triple r d None)) (bare_width s)
 
 mutual
   bare_cell : (c : Datum) (f : Field) (r d k : ℕ) → cell_triples c (bare_in f) r d k ≡ cell_triples c f r d k
@@ -62,14 +62,14 @@ mutual
 
   bare_list : (cs : Cells) (f : Field) (r d k : ℕ) → list_triples cs (bare_in f) r d k ≡ list_triples cs f r d k
   bare_list no_cells f r d k = bare_nothing f r d
-  bare_list (one_cell c cs) f r d k = ap₂ joined (bare_cell c f r (d + 1) (k + 1)) (bare_later cs f (d + 1) (k + 1))
+  bare_list (one_cell c cs) f r d k = ap₂ columns_joined (bare_cell c f r (d + 1) (k + 1)) (bare_later cs f (d + 1) (k + 1))
 
   bare_later : (cs : Cells) (f : Field) (d k : ℕ) → later_triples cs (bare_in f) d k ≡ later_triples cs f d k
   bare_later no_cells f d k = refl
-  bare_later (one_cell c cs) f d k = ap₂ joined (bare_cell c f k d k) (bare_later cs f d k)
+  bare_later (one_cell c cs) f d k = ap₂ columns_joined (bare_cell c f k d k) (bare_later cs f d k)
 
 pub bare_triples : (fs : Fields) (rows : Cells) → triples (bare fs) rows ≡ triples fs rows
-bare_triples fs rows = ap₂ joined (ap empty_columns (bare_widths fs)) (bare_later rows (root fs) 0 0)
+bare_triples fs rows = ap₂ columns_joined (ap empty_columns (bare_widths fs)) (bare_later rows (root fs) 0 0)
 
 -- ---- the same form
 
@@ -80,13 +80,13 @@ module _ (test : Value → Leaf → Bool) where
     of_cell (atom v) (field name b (leaf l)) h = h
     of_cell (atom v) (field name b (shape.group fs)) h = absurd h
     of_cell (atom v) (field name b (shape.list f)) h = absurd h
-    of_cell (atom v) (field name b (dictionary f)) h = absurd h
+    of_cell (atom v) (field name b (map_of f)) h = absurd h
     of_cell (group cs) (field name b (shape.group fs)) h = of_each cs fs h
     of_cell (group cs) (field name b (leaf l)) h = absurd h
     of_cell (group cs) (field name b (shape.list f)) h = absurd h
-    of_cell (group cs) (field name b (dictionary f)) h = absurd h
+    of_cell (group cs) (field name b (map_of f)) h = absurd h
     of_cell (list cs) (field name b (shape.list f)) h = of_all cs f h
-    of_cell (list cs) (field name b (dictionary f)) h = of_all cs (entry f) h
+    of_cell (list cs) (field name b (map_of f)) h = of_all cs (entry f) h
     of_cell (list cs) (field name b (leaf l)) h = absurd h
     of_cell (list cs) (field name b (shape.group fs)) h = absurd h
 
@@ -106,13 +106,13 @@ module _ (test : Value → Leaf → Bool) where
     from_cell (atom v) (field name b (leaf l)) h = h
     from_cell (atom v) (field name b (shape.group fs)) h = absurd h
     from_cell (atom v) (field name b (shape.list f)) h = absurd h
-    from_cell (atom v) (field name b (dictionary f)) h = absurd h
+    from_cell (atom v) (field name b (map_of f)) h = absurd h
     from_cell (group cs) (field name b (shape.group fs)) h = from_each cs fs h
     from_cell (group cs) (field name b (leaf l)) h = absurd h
     from_cell (group cs) (field name b (shape.list f)) h = absurd h
-    from_cell (group cs) (field name b (dictionary f)) h = absurd h
+    from_cell (group cs) (field name b (map_of f)) h = absurd h
     from_cell (list cs) (field name b (shape.list f)) h = from_all cs f h
-    from_cell (list cs) (field name b (dictionary f)) h = from_all cs (entry f) h
+    from_cell (list cs) (field name b (map_of f)) h = from_all cs (entry f) h
     from_cell (list cs) (field name b (leaf l)) h = absurd h
     from_cell (list cs) (field name b (shape.group fs)) h = absurd h
 
@@ -143,17 +143,17 @@ module _ (test : Value → Leaf → Bool) where
     stays null (field name b (leaf l)) path h = refl
     stays null (field name b (shape.group fs)) path h = refl
     stays null (field name b (shape.list f)) path h = refl
-    stays null (field name b (dictionary f)) path h = refl
+    stays null (field name b (map_of f)) path h = refl
     stays (atom v) (field name b (leaf l)) path h = refl
     stays (atom v) (field name b (shape.group fs)) path h = absurd h
     stays (atom v) (field name b (shape.list f)) path h = absurd h
-    stays (atom v) (field name b (dictionary f)) path h = absurd h
+    stays (atom v) (field name b (map_of f)) path h = absurd h
     stays (group cs) (field name b (shape.group fs)) path h = ap (option_map group) (each_stays cs fs path h)
     stays (group cs) (field name b (leaf l)) path h = absurd h
     stays (group cs) (field name b (shape.list f)) path h = absurd h
-    stays (group cs) (field name b (dictionary f)) path h = absurd h
+    stays (group cs) (field name b (map_of f)) path h = absurd h
     stays (list cs) (field name b (shape.list f)) path h = ap (option_map list) (all_stay cs f (path ++ codes "list" ∷ codes "element" ∷ []) h)
-    stays (list cs) (field name b (dictionary f)) path h = ap (option_map list) (entries_stay cs f (path ++ codes "key_value" ∷ codes "value" ∷ []) h)
+    stays (list cs) (field name b (map_of f)) path h = ap (option_map list) (entries_stay cs f (path ++ codes "key_value" ∷ codes "value" ∷ []) h)
     stays (list cs) (field name b (leaf l)) path h = absurd h
     stays (list cs) (field name b (shape.group fs)) path h = absurd h
 
@@ -199,8 +199,8 @@ rows_stay_same fs rows h = rows_stay is_of_kind rows fs h
 
 -- ---- as they are laid
 
-pub own_triples : (fs : Fields) (rows : Cells) → IsSchema fs → AreRowsOf fs rows → AreTriplesOf (cuts_of (laid fs (written_nodes fs))) rows (triples fs rows)
-own_triples fs rows is h = subst (λ cut. AreTriplesOf cut rows (triples fs rows)) (sym (cut_is_bare fs is)) (rows_of_bare fs rows h, sym (bare_triples fs rows))
+pub own_triples : (fs : Fields) (rows : Cells) → IsSchema fs → AreRowsOf fs rows → AreTriplesOf (projected_fields (projection fs (written_nodes fs))) rows (triples fs rows)
+own_triples fs rows is h = subst (λ cut. AreTriplesOf cut rows (triples fs rows)) (sym (projected_is_bare fs is)) (rows_of_bare fs rows h, sym (bare_triples fs rows))
 
-pub own_widened : (fs : Fields) (rows : Cells) → IsSchema fs → AreRowsOf fs rows → rows_widened (laid fs (written_nodes fs)) rows ≡ Some rows
-own_widened fs rows is h = ap (λ plans. rows_widened plans rows) (laid_own fs is) ∙ rows_stay_same fs rows h
+pub own_widened : (fs : Fields) (rows : Cells) → IsSchema fs → AreRowsOf fs rows → rows_widened (projection fs (written_nodes fs)) rows ≡ Some rows
+own_widened fs rows is h = ap (λ plans. rows_widened plans rows) (own_projection fs is) ∙ rows_stay_same fs rows h

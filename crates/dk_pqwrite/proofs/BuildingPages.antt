@@ -11,10 +11,10 @@ use Rattle.std.proofs.lemmas.List.Sums.{sum_by-cons}
 use Rattle.dk_grammar.specs.PageHeaders.{SpellsHeader}
 use Rattle.dk_grammar.specs.Runs.{AreFirst}
 use Rattle.dk_pqmodel.specs.Shape as shape
-use Rattle.dk_pqmodel.specs.Datum.{Value, flag, int, chars, Entry, Column}
+use Rattle.dk_pqmodel.specs.Datum.{Value, flag, int, chars, Triple, Column}
 use Rattle.dk_pqmodel.specs.FilePages.{AreAtIndices, AreFull, IsFull, BehindWidth, HoldValues, InPlain, IsDataV1, IsDictionary, IsPage}
 use Rattle.dk_pqmodel.specs.Fits.{fits_leaf}
-use Rattle.dk_pqmodel.specs.Laid.{Path}
+use Rattle.dk_pqmodel.specs.Projection.{Path}
 use Rattle.dk_pqmodel.specs.Weight.{text_length}
 use Rattle.dk_pqwrite.specs.declared.column.LeafColumn.{LeafColumn}
 use Rattle.dk_pqwrite.specs.Adding.{Adds}
@@ -28,12 +28,12 @@ use Rattle.dk_pqwrite.proofs.Uses.{Key, Text, nil_cons, shown, some_parts}
 
 -- ---- levels
 
-pub repetitions_within : (column : LeafColumn) (entries : Column) → AreFull (column_at [] column) entries → All (λ level. level ≤ column.rep) (map (λ (e : Entry). e.repetition) entries)
-repetitions_within column entries h = All-map (λ level. level ≤ column.rep) (λ (e : Entry). e.repetition) entries h.1
+pub repetitions_within : (column : LeafColumn) (entries : Column) → AreFull (column_at [] column) entries → All (λ level. level ≤ column.rep) (map (λ (e : Triple). e.repetition) entries)
+repetitions_within column entries h = All-map (λ level. level ≤ column.rep) (λ (e : Triple). e.repetition) entries h.1
 
-pub definitions_within : (column : LeafColumn) (entries : Column) → AreFull (column_at [] column) entries → All (λ level. level ≤ column.def) (map (λ (e : Entry). e.definition) entries)
+pub definitions_within : (column : LeafColumn) (entries : Column) → AreFull (column_at [] column) entries → All (λ level. level ≤ column.def) (map (λ (e : Triple). e.definition) entries)
 definitions_within column entries h =
-    All-map (λ level. level ≤ column.def) (λ (e : Entry). e.definition) entries (All-weaker (IsFull column.def) (λ (e : Entry). e.definition ≤ column.def) (λ e full. full.0) entries h.0)
+    All-map (λ level. level ≤ column.def) (λ (e : Triple). e.definition) entries (All-weaker (IsFull column.def) (λ (e : Triple). e.definition ≤ column.def) (λ e full. full.0) entries h.0)
 
 -- ---- places
 
@@ -90,9 +90,9 @@ values_few (e ∷ es) = few_more e.repetition e.definition e.value es (values_fe
 
 weight_more : (r d : ℕ) (v : Option Value) (es : Column) → 8 * length es + plain_size (values_in es) ≤ column_weight es
     → 8 * suc (length es) + plain_size (values_in (record { repetition = r; definition = d; value = v } ∷ es)) ≤ column_weight (record { repetition = r; definition = d; value = v } ∷ es)
-weight_more r d None es h = omega (arith, h, sum_by-cons (λ (e : Entry). entry_weight e.value) (record { repetition = r; definition = d; value = None }) es)
+weight_more r d None es h = omega (arith, h, sum_by-cons (λ (e : Triple). entry_weight e.value) (record { repetition = r; definition = d; value = None }) es)
 weight_more r d (Some v) es h =
-    omega (arith, h, sum_by-cons (λ (e : Entry). entry_weight e.value) (record { repetition = r; definition = d; value = Some v }) es, sum_by-cons (λ x. 8 + text_length x) v (values_in es))
+    omega (arith, h, sum_by-cons (λ (e : Triple). entry_weight e.value) (record { repetition = r; definition = d; value = Some v }) es, sum_by-cons (λ x. 8 + text_length x) v (values_in es))
 
 -- entries weigh as much as their bytes and more
 pub weighs : (entries : Column) → 8 * length entries + plain_size (values_in entries) ≤ column_weight entries

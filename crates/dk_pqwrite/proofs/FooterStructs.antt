@@ -5,7 +5,7 @@ use Rattle.dk_grammar.specs.Structs.{Listed, SpellsNumberField}
 use Rattle.dk_grammar.specs.Lists.{Either, held, other, SpellsListOf, SpellsHeldOr}
 use Rattle.dk_grammar.proofs.WrittenSpellings.{whole_written}
 use Rattle.dk_thrift.specs.Writing.{Writing, IsOpen, with_bytes, with_struct, with_end}
-use Rattle.dk_pqmodel.specs.Laid.{Path}
+use Rattle.dk_pqmodel.specs.Projection.{Path}
 use Rattle.dk_pqmodel.specs.FooterBytes.{SpellsPath}
 use Rattle.dk_pqwrite.specs.Said.{MetaSaid, MetaPart, meta_of, SpellsMetaSaid, ChunkSaid, SpellsChunkSaid, SpellsGroupSaid}
 use Rattle.dk_pqwrite.specs.declared.chunk.Chunk.{Chunk}

@@ -7,7 +7,7 @@ pub mod CellCounts
 pub mod ElementBytes
 pub mod FooterStructs
 pub mod HeaderSpelling
-pub mod Laid
+pub mod OwnProjection
 pub mod Names
 pub mod NodeElements
 pub mod NumberSizes

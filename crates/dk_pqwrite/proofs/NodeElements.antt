@@ -4,7 +4,7 @@ use Rattle.std.proofs.lemmas.List.{length-append, drop_all, append-nil}
 use Rattle.std.proofs.lemmas.List.Sums.{sum_by-append}
 use Rattle.std.proofs.lemmas.Bool.{lt-ltb}
 use Rattle.dk_thrift.specs.Writing.{Writing, IsOpen}
-use Rattle.dk_pqmodel.specs.Shape.{flag, int32, int64, chars, Shape, leaf, dictionary, Field, field, Fields, no_fields, one_field, shape_in, is_nullable}
+use Rattle.dk_pqmodel.specs.Shape.{flag, int32, int64, chars, Shape, leaf, map_of, Field, field, Fields, no_fields, one_field, shape_in, is_nullable}
 use Rattle.dk_pqmodel.specs.Shape as shape
 use Rattle.dk_pqmodel.specs.NodeView.{fields_of, field_of, shape_of}
 use Rattle.dk_pqmodel.specs.FileSchema.{FileNode, file_node, FileNodes, no_nodes, one_node, is_repeated}
@@ -112,7 +112,7 @@ map_added k b n f g u v w x is same named first key second inner =
     let keyed = node_added (codes "key") 0 (Some (pos 6)) no_nodes g v w w (record { said = key; read = refl }) second (no_elements w second.goes_on) in
     let both = more_added key_node (one_node (written_as (codes "value") e) no_nodes) v w x keyed value in
     let whole = only_added (map_node e) u x (node_added (codes "key_value") 2 None (one_node key_node (one_node (written_as (codes "value") e) no_nodes)) f u v x (record { said = named; read = refl }) first both) in
-    subst (λ s. WritesNodes (nodes_at s) u x) (ap (λ m. dictionary (field_of m)) same ∙ sym (ap shape_of is ∙ shape_of-Map b)) whole
+    subst (λ s. WritesNodes (nodes_at s) u x) (ap (λ m. map_of (field_of m)) same ∙ sym (ap shape_of is ∙ shape_of-Map b)) whole
 
 -- ---- the element of a field
 
@@ -134,7 +134,7 @@ shape_read (leaf int64) name r h = refl
 shape_read (leaf chars) name r h = refl
 shape_read (shape.group fs) name r h = rw (lt-ltb (count_of (written_nodes fs)) (2 ^ 31) h) refl
 shape_read (shape.list f) name r h = refl
-shape_read (dictionary f) name r h = refl
+shape_read (map_of f) name r h = refl
 
 nullable_is : (b : Bool) (n : ℕ) → n ≡ one_if b → pos n ≡ pos (one_if b)
 nullable_is b n e = ap pos e
@@ -155,7 +155,7 @@ converted_is (leaf int64) = refl
 converted_is (leaf chars) = refl
 converted_is (shape.group fs) = sym (group_plain fs)
 converted_is (shape.list f) = refl
-converted_is (dictionary f) = refl
+converted_is (map_of f) = refl
 
 -- a field's element, from its parts
 field_said : (name : List ℕ) (f : Field) (r : ℕ) (physical children converted : Option ℕ) → converted ≡ converted_at (shape_in f) → r ≡ one_if (is_nullable f) → option_map pos physical ≡ physical_at (shape_in f)
@@ -228,7 +228,7 @@ three_more n = omega arith
 list_size : (f : Field) → length (said_of (nodes_at (shape.list f))) ≡ length (said_of (nodes_at (shape_in f))) + 2
 list_size (field own b s) = rw (append-nil (said_of (nodes_at s) ++ []), append-nil (said_of (nodes_at s))) (two_more (length (said_of (nodes_at s))))
 
-map_size : (f : Field) → length (said_of (nodes_at (dictionary f))) ≡ length (said_of (nodes_at (shape_in f))) + 3
+map_size : (f : Field) → length (said_of (nodes_at (map_of f))) ≡ length (said_of (nodes_at (shape_in f))) + 3
 map_size (field own b s) = rw (append-nil (said_of (nodes_at s) ++ []), append-nil (said_of (nodes_at s))) (three_more (length (said_of (nodes_at s))))
 
 kind_in : (n : Node) → shape_in (field_of n) ≡ shape_of n.kind

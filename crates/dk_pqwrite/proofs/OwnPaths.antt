@@ -4,12 +4,12 @@ use Rattle.std.specs.Str.{bytes_eq}
 use Rattle.std.proofs.lemmas.List.{append-nil, map-append}
 use Rattle.std.proofs.lemmas.Slice.Eq.{bytes_eq-Decides, slice_eq-Decides}
 use Rattle.std.proofs.lemmas.Bool.{and_parts, and_from, or_from, or_parts, false≢true}
-use Rattle.dk_pqmodel.specs.Shape.{Shape, leaf, dictionary, Field, field, Fields, no_fields, one_field, name_in}
+use Rattle.dk_pqmodel.specs.Shape.{Shape, leaf, map_of, Field, field, Fields, no_fields, one_field, name_in}
 use Rattle.dk_pqmodel.specs.Shape as shape
 use Rattle.dk_pqmodel.specs.Schema.{has_fields, is_named, are_distinct, is_sound_shape, is_sound, are_sound, IsSchema}
-use Rattle.dk_pqmodel.specs.Laid.{Path, paths_of, paths_of_all}
+use Rattle.dk_pqmodel.specs.Projection.{Path, paths_of, paths_of_all}
 use Rattle.dk_pqmodel.specs.Footer.{Chunk, is_path, has_path, is_new_each, if_distinct}
-use Rattle.dk_pqmodel.specs.Laid.{Plan, missing, value, members, elements, entries, Plans, no_plans, one_plan}
+use Rattle.dk_pqmodel.specs.Projection.{Plan, missing, value, members, elements, entries, Plans, no_plans, one_plan}
 use Rattle.dk_pqmodel.specs.FileMeans.{one_if, columns_in, columns_of}
 use Rattle.dk_pqwrite.specs.OverItself.{path_in, path_of, own_plan_at, own_plan_in, own_plan_named, own_plans}
 use Rattle.dk_pqwrite.proofs.Names.{Each, each_append, each_map, named_apart, not_true}
@@ -26,7 +26,7 @@ mutual
   under_at (leaf l) b path = (([], sym (append-nil path)), tt)
   under_at (shape.group fs) b path = under_each fs path
   under_at (shape.list f) b path = each_map (above path (codes "list" ∷ codes "element" ∷ [])) (paths_of (own_plan_in f (path ++ codes "list" ∷ codes "element" ∷ []))) (under_in f (path ++ codes "list" ∷ codes "element" ∷ []))
-  under_at (dictionary f) b path = (
+  under_at (map_of f) b path = (
     (codes "key_value" ∷ codes "key" ∷ [], refl),
     each_map (above path (codes "key_value" ∷ codes "value" ∷ [])) (paths_of (own_plan_in f (path ++ codes "key_value" ∷ codes "value" ∷ []))) (under_in f (path ++ codes "key_value" ∷ codes "value" ∷ [])),
   )
@@ -93,7 +93,7 @@ mutual
       let q = and_parts (has_fields fs) (are_distinct fs) p.0 in
       distinct_each fs path p.1 q.1
   distinct_at (shape.list f) b path h = distinct_in f (path ++ codes "list" ∷ codes "element" ∷ []) h
-  distinct_at (dictionary f) b path h =
+  distinct_at (map_of f) b path h =
       let inner = path ++ codes "key_value" ∷ codes "value" ∷ [] in
       (each_map (λ q u. key_apart path q u) (paths_of (own_plan_in f inner)) (under_in f inner), distinct_in f inner h)
 

@@ -2,7 +2,7 @@
 use Rattle.std.proofs.Common.{◌≡◌, ◌≤◌, ℕ, ◌+◌, ◌*◌, nat_le, Bool, true, false, not, ◌&&◌, List, [], ◌∷◌, ◌++◌, codes, None, refl, ap, arith}
 use Rattle.std.specs.Str.{bytes_eq}
 use Rattle.std.proofs.lemmas.Bool.{and_parts, and_from, or_from, or_parts}
-use Rattle.dk_pqmodel.specs.Shape.{Shape, leaf, dictionary, Field, field, Fields, no_fields, one_field, name_in}
+use Rattle.dk_pqmodel.specs.Shape.{Shape, leaf, map_of, Field, field, Fields, no_fields, one_field, name_in}
 use Rattle.dk_pqmodel.specs.Shape as shape
 use Rattle.dk_pqmodel.specs.Schema as schema
 use Rattle.dk_pqmodel.specs.Schema.{has_fields, is_named, are_distinct, is_sound_shape, IsSchema}
@@ -71,12 +71,12 @@ mutual
       let q = and_parts (has_fields fs) (are_distinct fs) p.0 in
       (new_names [] fs q.1 (none_at_first fs), sound_each fs p.1)
   sound_at (shape.list f) h = (refl, one_sound (file_node (codes "list") 2 None (one_node (written_as (codes "element") f) no_nodes)) (list_sound f (sound_as (codes "element") f h)))
-  sound_at (dictionary f) h = (refl, map_sound f (sound_as (codes "value") f h))
+  sound_at (map_of f) h = (refl, map_sound f (sound_as (codes "value") f h))
 
   list_sound : (f : Field) → is_sound (written_as (codes "element") f) ≡ true → is_sound (file_node (codes "list") 2 None (one_node (written_as (codes "element") f) no_nodes)) ≡ true
   list_sound (field own b s) h = rw h refl
 
-  map_sound : (f : Field) → is_sound (written_as (codes "value") f) ≡ true → are_sound (nodes_at (dictionary f)) ≡ true
+  map_sound : (f : Field) → is_sound (written_as (codes "value") f) ≡ true → are_sound (nodes_at (map_of f)) ≡ true
   map_sound (field own b s) h = rw h refl
 
   sound_each : (fs : Fields) → schema.are_sound fs ≡ true → are_sound (written_nodes fs) ≡ true
@@ -97,7 +97,7 @@ mutual
   levels_at (leaf l) = omega arith
   levels_at (shape.group fs) = levels_each fs
   levels_at (shape.list f) = let h = levels_as (codes "element") f in omega (arith, h)
-  levels_at (dictionary f) = let h = levels_as (codes "value") f in omega (arith, h)
+  levels_at (map_of f) = let h = levels_as (codes "value") f in omega (arith, h)
 
   levels_each : (fs : Fields) → levels_of (written_nodes fs) ≤ 2 * schema.levels_of fs
   levels_each no_fields = omega arith

@@ -3,7 +3,7 @@ use Rattle.std.proofs.Common.{ℕ, suc, ◌+◌, ◌*◌, ◌≤◌, Bool, true,
 use Rattle.std.specs.List.{filter}
 use Rattle.std.specs.Str.{bytes_eq}
 use Rattle.std.proofs.lemmas.List.Sums.{sum_by-cons}
-use Rattle.dk_pqmodel.specs.Datum.{Value, chars, Entry, Column}
+use Rattle.dk_pqmodel.specs.Datum.{Value, chars, Triple, Column}
 use Rattle.dk_pqmodel.specs.Weight.{column_bytes, text_length, value_bytes}
 use Rattle.dk_pqwrite.specs.FirstUses.{first_uses}
 use Rattle.dk_pqwrite.specs.PlainValues.{plain_size}
@@ -11,9 +11,9 @@ use Rattle.dk_pqwrite.specs.WrittenColumn.{values_in}
 
 bytes_more : (r d : ℕ) (v : Option Value) (es : Column) → 56 * length es + plain_size (values_in es) ≤ column_bytes es
     → 56 * suc (length es) + plain_size (values_in (record { repetition = r; definition = d; value = v } ∷ es)) ≤ column_bytes (record { repetition = r; definition = d; value = v } ∷ es)
-bytes_more r d None es h = omega (arith, h, sum_by-cons (λ (e : Entry). value_bytes e.value) (record { repetition = r; definition = d; value = None }) es)
+bytes_more r d None es h = omega (arith, h, sum_by-cons (λ (e : Triple). value_bytes e.value) (record { repetition = r; definition = d; value = None }) es)
 bytes_more r d (Some v) es h =
-    omega (arith, h, sum_by-cons (λ (e : Entry). value_bytes e.value) (record { repetition = r; definition = d; value = Some v }) es, sum_by-cons (λ x. 8 + text_length x) v (values_in es))
+    omega (arith, h, sum_by-cons (λ (e : Triple). value_bytes e.value) (record { repetition = r; definition = d; value = Some v }) es, sum_by-cons (λ x. 8 + text_length x) v (values_in es))
 
 -- values and levels together
 pub bytes_within : (entries : Column) → 56 * length entries + plain_size (values_in entries) ≤ column_bytes entries

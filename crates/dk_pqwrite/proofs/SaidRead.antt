@@ -10,7 +10,7 @@ use Rattle.dk_grammar.specs.Nested.{Repeats, SpellsAnyElement, SpellsValue}
 use Rattle.dk_grammar.specs.declared.thrift.Kind.TheVariants as kinds
 use Rattle.dk_grammar.specs.Structs.{Listed, under, last_under, first_of_two, when, SpellsFields, SpellsStruct, SpellsNumberField}
 use Rattle.dk_grammar.specs.Lists.{Either, held, other, is_held, held_in, others_in, SpellsEach, SpellsListHeader, SpellsListOf, SpellsHeldOr}
-use Rattle.dk_pqmodel.specs.Laid.{Path}
+use Rattle.dk_pqmodel.specs.Projection.{Path}
 use Rattle.dk_pqmodel.specs.Footer.{MetaFields, meta_fields, ChunkFields, GroupFields, ElementFields, FileFields, held_under, number_under}
 use Rattle.dk_pqmodel.specs.FooterBytes.{SpellsPath, SpellsMeta, SpellsChunk, SpellsGroup, SpellsElement, SpellsMetaData}
 use Rattle.dk_pqwrite.specs.Said.{MetaSaid, MetaPart, SpellsMetaSaid, ChunkSaid, SpellsChunkSaid, GroupSaid, SpellsGroupSaid, ElementSaid, SpellsElementSaid, FileSaid, FilePart, SpellsFileSaid}

@@ -2,12 +2,12 @@
 use Rattle.std.proofs.Common.{◌≡◌, ◌≤◌, ℕ, ◌+◌, ◌*◌, Bool, ℤ, pos, Option, Some, None, List, [], ◌∷◌, ◌++◌, length, map, codes, sum_by, sym, subst, arith}
 use Rattle.std.proofs.lemmas.List.{length-append, length-map}
 use Rattle.std.proofs.lemmas.List.Sums.{sum_by-cons, sum_by-append}
-use Rattle.dk_pqmodel.specs.Shape.{Shape, leaf, dictionary, Field, field, Fields, no_fields, one_field}
+use Rattle.dk_pqmodel.specs.Shape.{Shape, leaf, map_of, Field, field, Fields, no_fields, one_field}
 use Rattle.dk_pqmodel.specs.Shape as shape
 use Rattle.dk_pqmodel.specs.Schema.{levels_at, levels_in, levels_of, IsSchema}
 use Rattle.dk_pqmodel.specs.FileMeans.{one_if, columns_of}
 use Rattle.dk_pqmodel.specs.FileSchema.{FileNode, file_node, FileNodes, no_nodes, one_node}
-use Rattle.dk_pqmodel.specs.Laid.{Path, paths_of, paths_of_all}
+use Rattle.dk_pqmodel.specs.Projection.{Path, paths_of, paths_of_all}
 use Rattle.dk_pqmodel.specs.Weight.{node_bytes_at, node_bytes_in, node_bytes_of}
 use Rattle.dk_pqwrite.specs.Elements.{element_said, said, said_of}
 use Rattle.dk_pqwrite.specs.FooterSizes.{name_size, element_size, chunk_size}
@@ -46,7 +46,7 @@ list_is f =
       nodes_are element no_nodes,
     )
 
-map_is : (f : Field) → nodes_size (nodes_at (dictionary f)) ≡ 66 + node_size (written_as (codes "value") f)
+map_is : (f : Field) → nodes_size (nodes_at (map_of f)) ≡ 66 + node_size (written_as (codes "value") f)
 map_is f =
     let key = file_node (codes "key") 0 (Some (pos 6)) no_nodes in
     let value = written_as (codes "value") f in
@@ -78,7 +78,7 @@ mutual
       let more = codes "list" ∷ codes "element" ∷ [] in
       let element = as_size f (codes "element") (path ++ more) above around (omega arith) (omega (arith, sum_by-append name_size path more, names)) levels in
       omega (arith, list_is f, element)
-  at_size (dictionary f) b path above around names levels =
+  at_size (map_of f) b path above around names levels =
       let key = codes "key_value" ∷ codes "key" ∷ [] in
       let more = codes "key_value" ∷ codes "value" ∷ [] in
       let value = as_size f (codes "value") (path ++ more) above around (omega arith) (omega (arith, sum_by-append name_size path more, names)) levels in

@@ -1,9 +1,9 @@
 -- The triples of rows that fit a schema, and aren't too heavy, are written as its columns.
 use Rattle.std.proofs.Common.{◌≡◌, ◌≤◌, ◌<◌, ◌^◌, ℕ, ◌+◌, true, false, None, List, [], ◌∷◌, length, map, replicate, refl, sym, subst, arith}
 use Rattle.std.proofs.lemmas.Bool.{false≢true}
-use Rattle.dk_pqmodel.specs.Shape.{Shape, leaf, dictionary, Field, field, Fields, no_fields, one_field, width_of, entry, root}
+use Rattle.dk_pqmodel.specs.Shape.{Shape, leaf, map_of, Field, field, Fields, no_fields, one_field, width_of, entry, root}
 use Rattle.dk_pqmodel.specs.Shape as shape
-use Rattle.dk_pqmodel.specs.Datum.{Datum, null, atom, group, list, Cells, no_cells, one_cell, Column, one_entry}
+use Rattle.dk_pqmodel.specs.Datum.{Datum, null, atom, group, list, Cells, no_cells, one_cell, Column, single_triple}
 use Rattle.dk_pqmodel.specs.FileMeans.{columns_of, rows_in}
 use Rattle.dk_pqmodel.specs.FilePages.{ColumnAt}
 use Rattle.dk_pqmodel.specs.Fits.{fits_leaf, CellBy, EachBy, AllBy, Fit}
@@ -21,7 +21,7 @@ use Rattle.dk_pqwrite.proofs.Suiting.{suits_value, AllSuit, all_more, all_empty,
 -- nothing stands below the level of what is inside
 nothing_suits : (s : Shape) (r d k e : ℕ) → r ≤ k → d < e → AllSuit 16 (bare_columns_at s k e) (nothing s r d)
 nothing_suits s r d k e lists below =
-    subst (λ n. AllSuit 16 (bare_columns_at s k e) (replicate n (one_entry r d None))) (count_at s k e)
+    subst (λ n. AllSuit 16 (bare_columns_at s k e) (replicate n (single_triple r d None))) (count_at s k e)
     (all_nothing r d (bare_columns_at s k e) (each_map (further r k (d + 1) e lists (omega (arith, below))) (bare_columns_at s k e) (beyond_at s k e)))
 
 mutual
@@ -31,16 +31,16 @@ mutual
   cell_suits (atom v) (field name b (leaf l)) r d k le h = (suits_value l v r (reached (field name b (leaf l)) d) k le h, tt)
   cell_suits (atom v) (field name b (shape.group fs)) r d k le h = absurd h
   cell_suits (atom v) (field name b (shape.list f)) r d k le h = absurd h
-  cell_suits (atom v) (field name b (dictionary f)) r d k le h = absurd h
+  cell_suits (atom v) (field name b (map_of f)) r d k le h = absurd h
   cell_suits (group cs) (field name b (shape.group fs)) r d k le h =
       let e = reached (field name b (shape.group fs)) d in
       all_more (weight_of cs) (16 + weight_of cs) (bare_columns_of fs k e) (group_triples cs fs r e k) (omega arith) (group_suits cs fs r e k le h)
   cell_suits (group cs) (field name b (leaf l)) r d k le h = absurd h
   cell_suits (group cs) (field name b (shape.list f)) r d k le h = absurd h
-  cell_suits (group cs) (field name b (dictionary f)) r d k le h = absurd h
+  cell_suits (group cs) (field name b (map_of f)) r d k le h = absurd h
   cell_suits (list cs) (field name b (shape.list f)) r d k le h = list_suits cs f r (reached (field name b (shape.list f)) d) k le h
-  cell_suits (list cs) (field name b (dictionary f)) r d k le h =
-      let e = reached (field name b (dictionary f)) d in
+  cell_suits (list cs) (field name b (map_of f)) r d k le h =
+      let e = reached (field name b (map_of f)) d in
       subst (λ columns. AllSuit (16 + weight_of cs) columns (list_triples cs (entry f) r e k)) (bare_entry f (k + 1) (e + 1)) (list_suits cs (entry f) r e k le h)
   cell_suits (list cs) (field name b (leaf l)) r d k le h = absurd h
   cell_suits (list cs) (field name b (shape.group fs)) r d k le h = absurd h

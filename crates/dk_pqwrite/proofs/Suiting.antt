@@ -6,10 +6,10 @@ use Rattle.std.proofs.lemmas.Bool.{false≢true}
 use Rattle.std.proofs.lemmas.List.Elements.{All-nil, All-cons, All-append, All-weaker}
 use Rattle.std.proofs.lemmas.List.Sums.{sum_by-cons, sum_by-append, get_or-le-sum_by}
 use Rattle.dk_pqmodel.specs.Shape.{Leaf}
-use Rattle.dk_pqmodel.specs.Datum.{Value, Entry, Column, one_entry}
+use Rattle.dk_pqmodel.specs.Datum.{Value, Triple, Column, single_triple}
 use Rattle.dk_pqmodel.specs.FilePages.{ColumnAt, IsFull}
 use Rattle.dk_pqmodel.specs.Fits.{fits_leaf}
-use Rattle.dk_pqmodel.specs.Triples.{joined, empty_columns}
+use Rattle.dk_pqmodel.specs.Triples.{columns_joined, empty_columns}
 use Rattle.dk_pqmodel.specs.Weight.{text_length}
 use Rattle.dk_pqwrite.specs.PlainValues.{column_weight, entry_weight}
 use Rattle.dk_pqwrite.specs.Writable.{IsWritable}
@@ -17,7 +17,7 @@ use Rattle.dk_pqwrite.proofs.BareColumns.{Beyond, bare_column, without_path}
 use Rattle.dk_pqwrite.proofs.Names.{Each}
 
 -- its levels are the column's, and its value, if it has one, fits
-abbrev IsEntryOf : ColumnAt → Entry → Type 0
+abbrev IsEntryOf : ColumnAt → Triple → Type 0
 IsEntryOf column e = IsFull column.def e × (e.repetition ≤ column.rep) × IfSome e.value (λ v. IsTrue (fits_leaf v column.kind))
 
 -- each is an entry of the column, and together they weigh no more than this
@@ -28,21 +28,21 @@ pub record Suits (most : ℕ) (column : ColumnAt) (triples : Column) : Type 0 wh
 suits_empty : (column : ColumnAt) → Suits 0 column []
 suits_empty column = record { each = All-nil (IsEntryOf column); light = omega arith }
 
-suits_one : (column : ColumnAt) (r d : ℕ) (v : Option Value) → IsEntryOf column (record { repetition = r; definition = d; value = v }) → Suits (entry_weight v) column (one_entry r d v)
+suits_one : (column : ColumnAt) (r d : ℕ) (v : Option Value) → IsEntryOf column (record { repetition = r; definition = d; value = v }) → Suits (entry_weight v) column (single_triple r d v)
 suits_one column r d v is =
     record { each = All-cons (IsEntryOf column) (record { repetition = r; definition = d; value = v }) [] is (All-nil (IsEntryOf column)); light = omega arith }
 
 -- below the greatest definition level nothing stands
-suits_nothing : (column : ColumnAt) (r d : ℕ) → Beyond r (d + 1) column → Suits 16 column (one_entry r d None)
+suits_nothing : (column : ColumnAt) (r d : ℕ) → Beyond r (d + 1) column → Suits 16 column (single_triple r d None)
 suits_nothing column r d h = suits_one column r d None ((omega (arith, h.1), (λ some. absurd (false≢true some), λ e. absurd (omega (arith, e, h.1)))), h.0, tt)
 
-pub suits_value : (kind : Leaf) (v : Value) (r d k : ℕ) → r ≤ k → IsTrue (fits_leaf v kind) → Suits (16 + text_length v) (bare_column kind k d) (one_entry r d (Some v))
+pub suits_value : (kind : Leaf) (v : Value) (r d k : ℕ) → r ≤ k → IsTrue (fits_leaf v kind) → Suits (16 + text_length v) (bare_column kind k d) (single_triple r d (Some v))
 suits_value kind v r d k le fits = suits_one (bare_column kind k d) r d (Some v) ((omega arith, (λ some. refl, λ e. refl)), le, fits)
 
 suits_behind : (m n : ℕ) (column : ColumnAt) (a b : Column) → Suits m column a → Suits n column b → Suits (m + n) column (a ++ b)
 suits_behind m n column a b h k = record {
   each = All-append (IsEntryOf column) a b h.each k.each;
-  light = omega (arith, sum_by-append (λ (e : Entry). entry_weight e.value) a b, h.light, k.light);
+  light = omega (arith, sum_by-append (λ (e : Triple). entry_weight e.value) a b, h.light, k.light);
 }
 
 suits_more : (m n : ℕ) (column : ColumnAt) (triples : Column) → m ≤ n → Suits m column triples → Suits n column triples
@@ -66,7 +66,7 @@ pub all_empty : (cs : List ColumnAt) → AllSuit 0 cs (empty_columns (length cs)
 all_empty [] = tt
 all_empty (c ∷ cs) = (suits_empty c, all_empty cs)
 
-pub all_nothing : (r d : ℕ) (cs : List ColumnAt) → Each (Beyond r (d + 1)) cs → AllSuit 16 cs (replicate (length cs) (one_entry r d None))
+pub all_nothing : (r d : ℕ) (cs : List ColumnAt) → Each (Beyond r (d + 1)) cs → AllSuit 16 cs (replicate (length cs) (single_triple r d None))
 all_nothing r d [] h = tt
 all_nothing r d (c ∷ cs) h = (suits_nothing c r d h.0, all_nothing r d cs h.1)
 
@@ -76,7 +76,7 @@ all_beside m n [] ds (x ∷ xs) ys h k = absurd h
 all_beside m n (c ∷ cs) ds [] ys h k = absurd h
 all_beside m n (c ∷ cs) ds (x ∷ xs) ys h k = (suits_more m (m + n) c x (omega arith) h.0, all_beside m n cs ds xs ys h.1 k)
 
-all_joined : (m n : ℕ) (cs : List ColumnAt) (xs ys : List Column) → AllSuit m cs xs → AllSuit n cs ys → AllSuit (m + n) cs (joined xs ys)
+all_joined : (m n : ℕ) (cs : List ColumnAt) (xs ys : List Column) → AllSuit m cs xs → AllSuit n cs ys → AllSuit (m + n) cs (columns_joined xs ys)
 all_joined m n [] [] [] h k = tt
 all_joined m n [] [] (y ∷ ys) h k = absurd k
 all_joined m n [] (x ∷ xs) ys h k = absurd h
@@ -93,7 +93,7 @@ pub none_or_suit : (most : ℕ) (cs : List ColumnAt) (ts : List Column) → AllS
 none_or_suit most cs [] h = tt
 none_or_suit most cs (t ∷ ts) h = h
 
-pub joined_suit : (m n : ℕ) (cs : List ColumnAt) (xs ys : List Column) → AllSuit m cs xs → NoneOrSuit n cs ys → AllSuit (m + n) cs (joined xs ys)
+pub joined_suit : (m n : ℕ) (cs : List ColumnAt) (xs ys : List Column) → AllSuit m cs xs → NoneOrSuit n cs ys → AllSuit (m + n) cs (columns_joined xs ys)
 joined_suit m n cs [] [] h k = all_more m (m + n) cs [] (omega arith) h
 joined_suit m n cs (x ∷ xs) [] h k = all_more m (m + n) cs (x ∷ xs) (omega arith) h
 joined_suit m n cs xs (y ∷ ys) h k = all_joined m n cs xs (y ∷ ys) h k
@@ -110,15 +110,15 @@ some_weight (Some v) = omega arith
 
 few_entries : (triples : Column) → 16 * length triples ≤ column_weight triples
 few_entries [] = omega arith
-few_entries (e ∷ es) = omega (arith, few_entries es, some_weight e.value, sum_by-cons (λ (x : Entry). entry_weight x.value) e es)
+few_entries (e ∷ es) = omega (arith, few_entries es, some_weight e.value, sum_by-cons (λ (x : Triple). entry_weight x.value) e es)
 
 pub suits_writable : (most : ℕ) (column : ColumnAt) (triples : Column) → most ≤ 2 ^ 30 → Suits most (without_path column) triples → IsWritable column triples
 suits_writable most column triples le h = record {
   full = (
     All-weaker (IsEntryOf (without_path column)) (IsFull column.def) (λ e is. is.0) triples h.each,
-    All-weaker (IsEntryOf (without_path column)) (λ (e : Entry). e.repetition ≤ column.rep) (λ e is. is.1) triples h.each,
+    All-weaker (IsEntryOf (without_path column)) (λ (e : Triple). e.repetition ≤ column.rep) (λ e is. is.1) triples h.each,
   );
-  fit = λ i e within. fits_entry column.kind (get_or triples i e).value (h.each i e within).2 (omega (arith, get_or-le-sum_by (λ (x : Entry). entry_weight x.value) triples i e within, h.light, le));
+  fit = λ i e within. fits_entry column.kind (get_or triples i e).value (h.each i e within).2 (omega (arith, get_or-le-sum_by (λ (x : Triple). entry_weight x.value) triples i e within, h.light, le));
   few = omega (arith, few_entries triples, h.light, le);
   light = omega (arith, h.light, le);
 }

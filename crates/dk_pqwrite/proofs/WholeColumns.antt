@@ -5,7 +5,7 @@ use Rattle.std.specs.declared.alloc.Global.{Global}
 use Rattle.std.proofs.lemmas.List.{append-nil, length-append, map-append, take_more, take_all}
 use Rattle.std.proofs.lemmas.List.Elements.{All-nil, All-push}
 use Rattle.std.proofs.lemmas.List.Sums.{sum_by-append, sum_by-cons}
-use Rattle.dk_levels.specs.Borrowed.{entry_of, column_of, columns_of}
+use Rattle.dk_levels.specs.Borrowed.{triple_of, column_of, columns_of}
 use Rattle.dk_pqmodel.specs.Datum.{Column}
 use Rattle.dk_pqmodel.specs.FileMeans.{HasTriples}
 use Rattle.dk_pqmodel.specs.FilePages.{ColumnAt}
@@ -136,13 +136,13 @@ still_begun columns place all rest chunks old now h g = omega (arith, h, ap leng
 
 -- ---- a leaf taken apart
 
-pub at_any_path : (leaf : SchemaLeaf) (items triples : List BorrowedTriple) → triples ≡ items → IsWritable (leaf_view leaf) (map entry_of items) → IsWritable (column_at [] leaf.column) (map entry_of triples)
+pub at_any_path : (leaf : SchemaLeaf) (items triples : List BorrowedTriple) → triples ≡ items → IsWritable (leaf_view leaf) (map triple_of items) → IsWritable (column_at [] leaf.column) (map triple_of triples)
 at_any_path leaf items triples read h =
-    subst (λ ts. IsWritable (column_at [] leaf.column) (map entry_of ts)) (sym read) (record { full = h.full; fit = h.fit; few = h.few; light = h.light })
+    subst (λ ts. IsWritable (column_at [] leaf.column) (map triple_of ts)) (sym read) (record { full = h.full; fit = h.fit; few = h.few; light = h.light })
 
-pub of_leaf : (leaf : SchemaLeaf) (items triples : List BorrowedTriple) (chunk : Chunk) (old new : List ℕ) → triples ≡ items → WritesColumn (leaf_view leaf) (map entry_of triples) chunk old new
-    → WritesColumn (leaf_view leaf) (map entry_of items) chunk old new
-of_leaf leaf items triples chunk old new read h = subst (λ ts. WritesColumn (leaf_view leaf) (map entry_of ts) chunk old new) read h
+pub of_leaf : (leaf : SchemaLeaf) (items triples : List BorrowedTriple) (chunk : Chunk) (old new : List ℕ) → triples ≡ items → WritesColumn (leaf_view leaf) (map triple_of triples) chunk old new
+    → WritesColumn (leaf_view leaf) (map triple_of items) chunk old new
+of_leaf leaf items triples chunk old new read h = subst (λ ts. WritesColumn (leaf_view leaf) (map triple_of ts) chunk old new) read h
 
 pub none_to_come : {X : Type 0} (items : List X) (len : ℕ) → length items ≡ len → len ≡ 0 → items ≡ []
 none_to_come [] len same none = refl

@@ -12,7 +12,7 @@ use Rattle.dk_pqmodel.specs.Footer as plain
 use Rattle.dk_pqmodel.specs.FooterBytes.{magic}
 use Rattle.dk_pqmodel.specs.FileMeans.{HasColumns, HasRows, FileMeans, columns_of, rows_in}
 use Rattle.dk_pqmodel.specs.FilePages.{ColumnAt}
-use Rattle.dk_pqmodel.specs.Laid.{Path, laid, rows_widened}
+use Rattle.dk_pqmodel.specs.Projection.{Path, projection, rows_widened}
 use Rattle.dk_pqmodel.specs.Triples.{triples}
 use Rattle.dk_pqmodel.specs.Weight.{most_bytes}
 use Rattle.dk_pqwrite.specs.Said.{FileSaid}
@@ -23,7 +23,7 @@ use Rattle.dk_pqwrite.specs.OverItself.{own_plans, path_of}
 use Rattle.dk_pqwrite.specs.Written.{written_nodes}
 use Rattle.dk_pqwrite.specs.WrittenColumns.{AreHeld, WritesColumns}
 use Rattle.dk_pqwrite.proofs.BareRows.{own_triples, own_widened}
-use Rattle.dk_pqwrite.proofs.Laid.{fits_own, laid_own}
+use Rattle.dk_pqwrite.proofs.OwnProjection.{fits_own, own_projection}
 use Rattle.dk_pqwrite.proofs.SchemaSizes.{schema_size}
 use Rattle.dk_pqwrite.proofs.WholeFooters.{footer_size_is}
 
@@ -65,10 +65,10 @@ module _ (fs : Fields) (rows : Cells) (count : ℕ) (ks : List Chunk) (before by
   abbrev group : RowGroup
   group = record { rows = count; columns = map chunk_view ks }
 
-  share : AreHeld before (columns_of (own_plans fs []) 0 0) (triples fs rows) ks → map path_of_chunk ks ≡ map path_of (columns_of (own_plans fs []) 0 0) → HasRows before (laid fs (written_nodes fs)) group rows
+  share : AreHeld before (columns_of (own_plans fs []) 0 0) (triples fs rows) ks → map path_of_chunk ks ≡ map path_of (columns_of (own_plans fs []) 0 0) → HasRows before (projection fs (written_nodes fs)) group rows
   share held paths = record {
     columns = triples fs rows;
-    held = subst (λ plans. HasColumns before group (columns_of plans 0 0) (triples fs rows)) (sym (laid_own fs is))
+    held = subst (λ plans. HasColumns before group (columns_of plans 0 0) (triples fs rows)) (sym (own_projection fs is))
         (held_columns before count (map chunk_view ks) (columns_of (own_plans fs []) 0 0) (triples fs rows) ks held paths (All-contains_itself (map chunk_view ks)));
     triples = own_triples fs rows is form;
     count = counted;
@@ -85,7 +85,7 @@ module _ (fs : Fields) (rows : Cells) (count : ℕ) (ks : List Chunk) (before by
     shares = rows ∷ [];
     held = (share held paths, tt);
     count = ap rows_in (nothing_behind rows) ∙ counted;
-    widened = ap (rows_widened (laid fs (written_nodes fs))) (nothing_behind rows) ∙ own_widened fs rows is form;
+    widened = ap (rows_widened (projection fs (written_nodes fs))) (nothing_behind rows) ∙ own_widened fs rows is form;
   }
 
 -- the pages of all columns, and a footer of their chunks

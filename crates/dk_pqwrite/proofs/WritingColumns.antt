@@ -10,7 +10,7 @@ use Rattle.dk_pqmodel.specs.Shape.{Leaf}
 use Rattle.dk_pqmodel.specs.Datum.{Value, chars, Column}
 use Rattle.dk_pqmodel.specs.FileMeans.{HasTriples}
 use Rattle.dk_pqmodel.specs.FilePages.{IsDataV1, IsDictionary, IsFirst, physical_type}
-use Rattle.dk_pqmodel.specs.Laid.{Path}
+use Rattle.dk_pqmodel.specs.Projection.{Path}
 use Rattle.dk_pqmodel.specs.Weight.{column_bytes}
 use Rattle.dk_pqwrite.specs.declared.chunk.Chunk.{Chunk}
 use Rattle.dk_pqwrite.specs.declared.column.LeafColumn.{LeafColumn}

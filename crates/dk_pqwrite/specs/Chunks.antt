@@ -1,6 +1,6 @@
 -- What is said of the chunks and of their row group.
 use Rattle.std.specs.Prelude.{◌<◌, ◌^◌, ℕ, pos, IfSome, Some, option_map, List, map, string_bytes, Bool, true, false, is_some, ◌∷◌, []}
-use Rattle.dk_pqmodel.specs.Laid.{Path}
+use Rattle.dk_pqmodel.specs.Projection.{Path}
 use Rattle.dk_pqmodel.specs.Footer as plain
 use Rattle.dk_pqwrite.specs.Said.{MetaSaid, ChunkSaid, GroupSaid}
 use Rattle.dk_pqwrite.specs.declared.chunk.Chunk.{Chunk}

@@ -1,6 +1,6 @@
 -- How many bytes the parts of a footer have at most.
 use Rattle.std.specs.Prelude.{ℕ, ◌+◌, ◌/◌, min, List, length, sum_by, Option, Some, None}
-use Rattle.dk_pqmodel.specs.Laid.{Path}
+use Rattle.dk_pqmodel.specs.Projection.{Path}
 use Rattle.dk_pqwrite.specs.Said.{ElementSaid}
 
 -- a name behind its length, which has a byte for names below 64 bytes, and never more than ten

@@ -1,10 +1,10 @@
 -- A schema laid over the one that is written for it.
 use Rattle.std.specs.Prelude.{Bool, false, [], ◌∷◌, ◌++◌, codes}
-use Rattle.dk_pqmodel.specs.Shape.{Shape, leaf, dictionary, Field, field, Fields, no_fields, one_field, entry}
+use Rattle.dk_pqmodel.specs.Shape.{Shape, leaf, map_of, Field, field, Fields, no_fields, one_field, entry}
 use Rattle.dk_pqmodel.specs.Shape as shape
 use Rattle.dk_pqmodel.specs.FilePages.{ColumnAt}
 use Rattle.dk_pqmodel.specs.Footer.{Chunk}
-use Rattle.dk_pqmodel.specs.Laid.{Path, Plan, value, members, elements, entries, Plans, no_plans, one_plan}
+use Rattle.dk_pqmodel.specs.Projection.{Path, Plan, value, members, elements, entries, Plans, no_plans, one_plan}
 
 -- The fields without their names, where a map is a list of its entries.
 abbrev mutual
@@ -12,7 +12,7 @@ abbrev mutual
   bare_at (leaf l) = leaf l
   bare_at (shape.group fs) = shape.group (bare fs)
   bare_at (shape.list f) = shape.list (bare_in f)
-  bare_at (dictionary f) = shape.list (entry (bare_in f))
+  bare_at (map_of f) = shape.list (entry (bare_in f))
 
   pub bare_in : Field → Field
   bare_in (field name nullable s) = field [] nullable (bare_at s)
@@ -27,7 +27,7 @@ abbrev mutual
   own_plan_at (leaf l) b path = value b l path
   own_plan_at (shape.group fs) b path = members b (own_plans fs path)
   own_plan_at (shape.list f) b path = elements b (own_plan_in f (path ++ codes "list" ∷ codes "element" ∷ []))
-  own_plan_at (dictionary f) b path = entries b false (path ++ codes "key_value" ∷ codes "key" ∷ []) (own_plan_in f (path ++ codes "key_value" ∷ codes "value" ∷ []))
+  own_plan_at (map_of f) b path = entries b false (path ++ codes "key_value" ∷ codes "key" ∷ []) (own_plan_in f (path ++ codes "key_value" ∷ codes "value" ∷ []))
 
   -- of a field whose path is given
   pub own_plan_in : Field → Path → Plan

@@ -3,13 +3,13 @@ use Rattle.std.specs.Prelude.{◌≡◌, ◌<◌, ◌+◌, ◌^◌, ℕ, Bool, O
 use Rattle.dk_grammar.specs.Plain.{Plain, plain_values}
 use Rattle.dk_pqmodel.specs.Shape.{Leaf}
 use Rattle.dk_pqmodel.specs.Datum as cell
-use Rattle.dk_pqmodel.specs.Datum.{Value, Entry, Column}
+use Rattle.dk_pqmodel.specs.Datum.{Value, Triple, Column}
 use Rattle.dk_pqmodel.specs.Fits.{fits_leaf}
 use Rattle.dk_pqmodel.specs.FilePages.{ArePlainOf}
 use Rattle.dk_pqmodel.specs.Weight.{text_length}
 
 -- the value, if there is one, can be written at the leaf
-abbrev pub FitsEntry : Leaf → Entry → Type 0
+abbrev pub FitsEntry : Leaf → Triple → Type 0
 FitsEntry kind e = IfSome e.value (λ v. IsTrue (fits_leaf v kind) × (text_length v < 2 ^ 32))
 
 -- the bytes are these numbers or texts, one behind another

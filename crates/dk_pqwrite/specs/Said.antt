@@ -4,7 +4,7 @@ use Rattle.std.specs.Prelude.{ℤ, pos, ℕ, Option, List}
 use Rattle.dk_grammar.specs.Grammar.{SpellsWhole}
 use Rattle.dk_grammar.specs.Structs.{Listed, SpellsStruct, SpellsNumberField}
 use Rattle.dk_grammar.specs.Lists.{Either, others_in, SpellsListOf, SpellsHeldOr, SpelledBy}
-use Rattle.dk_pqmodel.specs.Laid.{Path}
+use Rattle.dk_pqmodel.specs.Projection.{Path}
 use Rattle.dk_pqmodel.specs.Footer.{MetaFields, meta_fields, ElementFields, held_under, number_under}
 use Rattle.dk_pqmodel.specs.FooterBytes.{SpellsName, SpellsPath}
 

@@ -3,7 +3,7 @@ use Rattle.std.specs.Prelude.{◌≡◌, ℕ, List, [], ◌∷◌, ◌++◌, cod
 use Rattle.std.specs.Borrow.{Bor}
 use Rattle.dk_pqmodel.specs.FileMeans.{columns_in}
 use Rattle.dk_pqmodel.specs.FilePages.{ColumnAt}
-use Rattle.dk_pqmodel.specs.Laid.{Path}
+use Rattle.dk_pqmodel.specs.Projection.{Path}
 use Rattle.dk_pqmodel.specs.Shape.{Field}
 use Rattle.dk_pqwrite.specs.OverItself.{own_plan_in}
 use Rattle.dk_pqwrite.specs.WrittenColumn.{column_at, leaf_of}

@@ -2,7 +2,7 @@
 use Rattle.std.specs.Prelude.{List, filter_map}
 use Rattle.dk_pqmodel.specs.Shape as shape
 use Rattle.dk_pqmodel.specs.Datum.{Value, Column}
-use Rattle.dk_pqmodel.specs.Laid.{Path}
+use Rattle.dk_pqmodel.specs.Projection.{Path}
 use Rattle.dk_pqmodel.specs.FilePages.{ColumnAt}
 use Rattle.dk_pqwrite.specs.declared.column.LeafKind.{LeafKind}
 use Rattle.dk_pqwrite.specs.declared.column.LeafKind.TheVariants.{Flag, Int32, Int64, Chars}

@@ -5,7 +5,7 @@ ghost use Rattle.dk_pqmodel.specs.Datum.{Cells};
 ghost use Rattle.dk_pqmodel.specs.FileMeans.{columns_of};
 ghost use Rattle.dk_pqmodel.specs.Fits.{AreRowsOf, AreTriplesOf};
 ghost use Rattle.dk_pqmodel.specs.Footer.{Chunk, Element, IsTree, count_of, flat_of, if_distinct};
-ghost use Rattle.dk_pqmodel.specs.Laid.{Path, cuts_of, first_misfit, laid, rows_widened};
+ghost use Rattle.dk_pqmodel.specs.Projection.{Path, projected_fields, first_misfit, projection, rows_widened};
 ghost use Rattle.dk_pqmodel.specs.Schema.{IsSchema};
 ghost use Rattle.dk_pqmodel.specs.Shape.{Fields};
 ghost use Rattle.dk_pqmodel.specs.Triples.{triples};
@@ -16,10 +16,10 @@ ghost use Rattle.dk_pqwrite.specs.Written.{written_nodes};
 /// schema have the same triples by the file's schema, and are turned into themselves.
 pub fn a_schema_is_read_over_the_written_one()
     ensures fitting { (fs : Fields) → IsSchema fs → first_misfit fs (written_nodes fs) ≡ None }
-    ensures plans { (fs : Fields) → IsSchema fs → laid fs (written_nodes fs) ≡ own_plans fs [] }
-    ensures cut { (fs : Fields) → IsSchema fs → cuts_of (laid fs (written_nodes fs)) ≡ bare fs }
-    ensures triples { (fs : Fields) (rows : Cells) → IsSchema fs → AreRowsOf fs rows → AreTriplesOf (cuts_of (laid fs (written_nodes fs))) rows (triples fs rows) }
-    ensures widened { (fs : Fields) (rows : Cells) → IsSchema fs → AreRowsOf fs rows → rows_widened (laid fs (written_nodes fs)) rows ≡ Some rows }
+    ensures plans { (fs : Fields) → IsSchema fs → projection fs (written_nodes fs) ≡ own_plans fs [] }
+    ensures cut { (fs : Fields) → IsSchema fs → projected_fields (projection fs (written_nodes fs)) ≡ bare fs }
+    ensures triples { (fs : Fields) (rows : Cells) → IsSchema fs → AreRowsOf fs rows → AreTriplesOf (projected_fields (projection fs (written_nodes fs))) rows (triples fs rows) }
+    ensures widened { (fs : Fields) (rows : Cells) → IsSchema fs → AreRowsOf fs rows → rows_widened (projection fs (written_nodes fs)) rows ≡ Some rows }
 {}
 
 /// The schema that is written is a tree as a footer has it, and no two of its columns have one path.

@@ -1,10 +1,10 @@
 //! Pages (Apache Parquet, "Data Pages").
 
 ghost use Rattle.std.specs.Prelude.{◌≡◌, ◌+◌, ◌*◌, ◌<◌, ◌≤◌, ◌^◌, All, IfOk, None, OnOk, Some, [], length, map, pos};
-ghost use Rattle.dk_levels.specs.Borrowed.{entry_of};
+ghost use Rattle.dk_levels.specs.Borrowed.{triple_of};
 ghost use Rattle.dk_pqmodel.specs.Datum.{chars};
 ghost use Rattle.dk_pqmodel.specs.FilePages.{AreFull, IsDataV1, IsDictionary, IsPage};
-ghost use Rattle.dk_pqmodel.specs.Laid.{Path};
+ghost use Rattle.dk_pqmodel.specs.Projection.{Path};
 ghost use Rattle.dk_pqmodel.specs.Shape.{chars as shape_chars};
 ghost use Rattle.dk_pqwrite.specs.Adding.{Adds};
 ghost use Rattle.dk_pqwrite.specs.DataPages.{HoldBoth};
@@ -29,12 +29,12 @@ pub(crate) fn add_plain_page(
     column: LeafColumn,
     triples: &[BorrowedTriple<'_>],
 ) -> Result<(), AllocError>
-    requires full { AreFull (column_at [] column) (map entry_of triples.now) }
-    requires fit { All (FitsEntry (leaf_of column.kind)) (map entry_of triples.now) }
+    requires full { AreFull (column_at [] column) (map triple_of triples.now) }
+    requires fit { All (FitsEntry (leaf_of column.kind)) (map triple_of triples.now) }
     requires few { length triples.now ≤ 2 ^ 26 }
-    requires light { column_weight (map entry_of triples.now) ≤ 2 ^ 30 }
-    ensures { OnOk result ((path : Path) → Adds (λ bytes. IsDataV1 (column_at path column) None bytes (map entry_of triples.now))
-        (133 + 10 * length triples.now + plain_size (values_in (map entry_of triples.now))) out.old.items out.new.items) }
+    requires light { column_weight (map triple_of triples.now) ≤ 2 ^ 30 }
+    ensures { OnOk result ((path : Path) → Adds (λ bytes. IsDataV1 (column_at path column) None bytes (map triple_of triples.now))
+        (133 + 10 * length triples.now + plain_size (values_in (map triple_of triples.now))) out.old.items out.new.items) }
 {
     let mut body = levels_of(alloc, column, triples)?;
     add_plain(alloc, &mut body, column.kind, triples)?;
@@ -49,13 +49,13 @@ pub(crate) fn add_coded_page(
     dictionary: &Dictionary<'_>,
     triples: &[BorrowedTriple<'_>],
 ) -> Result<(), AllocError>
-    requires full { AreFull (column_at [] column) (map entry_of triples.now) }
+    requires full { AreFull (column_at [] column) (map triple_of triples.now) }
     requires kind { leaf_of column.kind ≡ shape_chars }
-    requires fit { All (FitsEntry (leaf_of column.kind)) (map entry_of triples.now) }
+    requires fit { All (FitsEntry (leaf_of column.kind)) (map triple_of triples.now) }
     requires few { length triples.now ≤ 2 ^ 26 }
-    requires places { AreTheirs (map (λ k. k.now) dictionary.now.texts.keys) dictionary.now.places.items (texts_in (map entry_of triples.now)) }
+    requires places { AreTheirs (map (λ k. k.now) dictionary.now.texts.keys) dictionary.now.places.items (texts_in (map triple_of triples.now)) }
     requires distinct { length dictionary.now.texts.keys ≤ 2 ^ 26 }
-    ensures { OnOk result ((path : Path) → Adds (λ bytes. IsDataV1 (column_at path column) (Some (map chars (map (λ k. k.now) dictionary.now.texts.keys))) bytes (map entry_of triples.now))
+    ensures { OnOk result ((path : Path) → Adds (λ bytes. IsDataV1 (column_at path column) (Some (map chars (map (λ k. k.now) dictionary.now.texts.keys))) bytes (map triple_of triples.now))
         (174 + 15 * length triples.now) out.old.items out.new.items) }
 {
     let mut body = levels_of(alloc, column, triples)?;
@@ -100,9 +100,9 @@ fn levels_of(
     column: LeafColumn,
     triples: &[BorrowedTriple<'_>],
 ) -> Result<Vec<u8>, AllocError>
-    requires full { AreFull (column_at [] column) (map entry_of triples.now) }
+    requires full { AreFull (column_at [] column) (map triple_of triples.now) }
     requires few { length triples.now ≤ 2 ^ 26 }
-    ensures { IfOk result (λ v. HoldBoth column (map entry_of triples.now) v.items) }
+    ensures { IfOk result (λ v. HoldBoth column (map triple_of triples.now) v.items) }
 {
     let mut body = Vec::new(alloc);
     if column.rep > 0 {

@@ -1,7 +1,7 @@
 //! The pages of a column, and the chunk that says where they stand.
 
 ghost use Rattle.std.specs.Prelude.{◌≡◌, ◌<◌, ◌≤◌, [], true, false, IfOk, is_some, length, map, pos, string_bytes};
-ghost use Rattle.dk_levels.specs.Borrowed.{entry_of};
+ghost use Rattle.dk_levels.specs.Borrowed.{triple_of};
 ghost use Rattle.dk_pqmodel.specs.FilePages.{physical_type};
 ghost use Rattle.dk_pqmodel.specs.Shape.{chars as shape_chars};
 ghost use Rattle.dk_pqwrite.specs.Writable.{IsWritable};
@@ -26,8 +26,8 @@ pub(crate) fn write_column(
     dictionary: bool,
 ) -> Result<Chunk, AllocError>
     requires begun { 0 < length out.old.items }
-    requires writable { IsWritable (column_at [] column) (map entry_of triples.now) }
-    ensures written { IfOk result (λ chunk. WritesColumn (column_at (map string_bytes path.items) column) (map entry_of triples.now) chunk out.old.items out.new.items) }
+    requires writable { IsWritable (column_at [] column) (map triple_of triples.now) }
+    ensures written { IfOk result (λ chunk. WritesColumn (column_at (map string_bytes path.items) column) (map triple_of triples.now) chunk out.old.items out.new.items) }
     ensures coded { IfOk result (λ chunk. is_some chunk.dictionary_page ≡ has_dictionary column.kind dictionary) }
 {
     match column.kind {
@@ -44,8 +44,8 @@ fn write_plain(
     column: LeafColumn,
     triples: &[BorrowedTriple<'_>],
 ) -> Result<Chunk, AllocError>
-    requires { IsWritable (column_at [] column) (map entry_of triples.now) }
-    ensures written { IfOk result (λ chunk. WritesColumn (column_at (map string_bytes path.items) column) (map entry_of triples.now) chunk out.old.items out.new.items) }
+    requires { IsWritable (column_at [] column) (map triple_of triples.now) }
+    ensures written { IfOk result (λ chunk. WritesColumn (column_at (map string_bytes path.items) column) (map triple_of triples.now) chunk out.old.items out.new.items) }
     ensures plain { IfOk result (λ chunk. is_some chunk.dictionary_page ≡ false) }
 {
     let first_page = out.len() as u64;
@@ -71,8 +71,8 @@ fn write_coded(
 ) -> Result<Chunk, AllocError>
     requires begun { 0 < length out.old.items }
     requires kind { leaf_of column.kind ≡ shape_chars }
-    requires writable { IsWritable (column_at [] column) (map entry_of triples.now) }
-    ensures written { IfOk result (λ chunk. WritesColumn (column_at (map string_bytes path.items) column) (map entry_of triples.now) chunk out.old.items out.new.items) }
+    requires writable { IsWritable (column_at [] column) (map triple_of triples.now) }
+    ensures written { IfOk result (λ chunk. WritesColumn (column_at (map string_bytes path.items) column) (map triple_of triples.now) chunk out.old.items out.new.items) }
     ensures coded { IfOk result (λ chunk. is_some chunk.dictionary_page ≡ true) }
 {
     let dictionary = dictionary_of(alloc, triples)?;

@@ -1,7 +1,7 @@
 //! Values in the encoding PLAIN (Apache Parquet, "Plain").
 
 ghost use Rattle.std.specs.Prelude.{◌≡◌, ◌≢◌, ◌∷◌, [], ◌+◌, ◌<◌, ◌^◌, All, IfOk, IfSome, IsTrue, OnOk, length, map, option_and_then, option_to_list};
-ghost use Rattle.dk_levels.specs.Borrowed.{entry_of, value_of};
+ghost use Rattle.dk_levels.specs.Borrowed.{triple_of, value_of};
 ghost use Rattle.dk_pqmodel.specs.Datum.{chars, int};
 ghost use Rattle.dk_pqmodel.specs.FilePages.{InPlain};
 ghost use Rattle.dk_pqmodel.specs.Fits.{fits_leaf};
@@ -24,8 +24,8 @@ pub(crate) fn add_plain(
     kind: LeafKind,
     triples: &[BorrowedTriple<'_>],
 ) -> Result<(), AllocError>
-    requires { All (FitsEntry (leaf_of kind)) (map entry_of triples.now) }
-    ensures { OnOk result (Adds (InPlain (leaf_of kind) (values_in (map entry_of triples.now))) (plain_size (values_in (map entry_of triples.now))) out.old.items out.new.items) }
+    requires { All (FitsEntry (leaf_of kind)) (map triple_of triples.now) }
+    ensures { OnOk result (Adds (InPlain (leaf_of kind) (values_in (map triple_of triples.now))) (plain_size (values_in (map triple_of triples.now))) out.old.items out.new.items) }
 {
     match kind {
         LeafKind::Flag => {
@@ -37,7 +37,7 @@ pub(crate) fn add_plain(
 }
 
 fn flags_in(alloc: Global, triples: &[BorrowedTriple<'_>]) -> Result<Vec<bool>, AllocError>
-    ensures { IfOk result (λ v. v.items ≡ flags_in (map entry_of triples.now)) }
+    ensures { IfOk result (λ v. v.items ≡ flags_in (map triple_of triples.now)) }
 {
     let mut flags = Vec::new(alloc);
     for triple in triples {
@@ -50,7 +50,7 @@ fn flags_in(alloc: Global, triples: &[BorrowedTriple<'_>]) -> Result<Vec<bool>, 
 
 /// The flag that an entry has, if it has one.
 fn flag_of(triple: &BorrowedTriple<'_>) -> Option<bool>
-    ensures { result ≡ option_and_then flag_of (entry_of triple.now).value }
+    ensures { result ≡ option_and_then flag_of (triple_of triple.now).value }
 {
     match &triple.value {
         BorrowedValue::Flag(flag) => Some(*flag),
@@ -65,8 +65,8 @@ fn add_values(
     triples: &[BorrowedTriple<'_>],
 ) -> Result<(), AllocError>
     requires kind { leaf_of kind ≢ shape_flag }
-    requires fit { All (FitsEntry (leaf_of kind)) (map entry_of triples.now) }
-    ensures { OnOk result (Adds (ArePlain (leaf_of kind) (values_in (map entry_of triples.now))) (plain_size (values_in (map entry_of triples.now))) out.old.items out.new.items) }
+    requires fit { All (FitsEntry (leaf_of kind)) (map triple_of triples.now) }
+    ensures { OnOk result (Adds (ArePlain (leaf_of kind) (values_in (map triple_of triples.now))) (plain_size (values_in (map triple_of triples.now))) out.old.items out.new.items) }
 {
     for triple in triples {
         add_value(out, kind, &triple.value)?;

@@ -1,5 +1,5 @@
-use Rattle.dk_levels.proofs.Cuts.{cuts_are_readable}
-use Rattle.dk_levels.proofs.laws.cuts_are_readable.Goals as goal
+use Rattle.dk_levels.proofs.Cuts.{projected_is_readable}
+use Rattle.dk_levels.proofs.laws.projected_is_readable.Goals as goal
 
 pub returns : goal.returns
-returns c = cuts_are_readable
+returns c = projected_is_readable

@@ -1,6 +1,7 @@
 use Rattle.std.proofs.Common.{◌≡◌, None, Some, rules, map, sym, subst, arith}
 use Rattle.std.proofs.lemmas.Result.{err_from_is_err_and}
-use Rattle.dk_pages.specs.Pages.{page_of, page_at}
+use Rattle.dk_pqmodel.specs.Pages.{page_at}
+use Rattle.dk_pages.specs.Pages.{page_of}
 use Rattle.dk_pqmeta.specs.View.{chunk_view}
 use Rattle.dk_pqmodel.specs.ColumnView.{column_of, value_of}
 use Rattle.dk_pqread.specs.ChunkMeaning.{EntriesHold, DataFrom}

@@ -1,7 +1,7 @@
 use Rattle.std.proofs.Common.{◌≡◌, ◌+◌, ◌<◌, Err, map, sym, ap, subst, ◌∙◌}
 use Rattle.std.proofs.lemmas.Result.{err_from_is_err_and}
 use Rattle.dk_pqmodel.specs.FileMeans.{columns_of}
-use Rattle.dk_pqmodel.specs.Laid.{laid}
+use Rattle.dk_pqmodel.specs.Projection.{projection}
 use Rattle.dk_pqmodel.specs.SchemaView.{fields_in}
 use Rattle.dk_pqmeta.specs.View.{footer_view, group_view, nodes_of}
 use Rattle.dk_pqread.specs.ColumnView.{column_at}
@@ -13,7 +13,7 @@ use Rattle.dk_pqread.proofs.examine.examine.Goals as goal
 
 pub columns-requires : goal.columns-requires
 columns-requires c =
-    let same : plans_of c.deref-2.result.now ≡ laid (fields_in c.args.wanted.now) (nodes_of c.deref.result.now) = ap plans_of c.deref-2.ensures.value ∙ c.in_ok-plans.ensures.1 in
+    let same : plans_of c.deref-2.result.now ≡ projection (fields_in c.args.wanted.now) (nodes_of c.deref.result.now) = ap plans_of c.deref-2.ensures.value ∙ c.in_ok-plans.ensures.1 in
     subst (λ ps. 0 + depth_of ps < 256) (sym same) (schema_deep (fields_in c.args.wanted.now) (nodes_of c.deref.result.now) c.args.wanted.now.is_schema)
 
 pub returns-in_err-scan : goal.returns-in_err-scan
@@ -22,7 +22,7 @@ returns-in_err-scan c =
     let footer = footer_view c.in_ok-footer.footer in
     let has = c.in_ok-footer.ensures in
     let fields : nodes_of c.deref.result.now ≡ footer.fields = ap nodes_of c.deref.ensures.value in
-    let plans : plans_of c.deref-2.result.now ≡ laid wanted footer.fields = ap plans_of c.deref-2.ensures.value ∙ c.in_ok-plans.ensures.1 ∙ ap (laid wanted) fields in
+    let plans : plans_of c.deref-2.result.now ≡ projection wanted footer.fields = ap plans_of c.deref-2.ensures.value ∙ c.in_ok-plans.ensures.1 ∙ ap (projection wanted) fields in
     let columns = ap (map column_at) c.deref-3.ensures.value ∙ c.in_ok-columns.ensures ∙ ap (λ ps. columns_of ps 0 0) plans in
     let p = err_from_is_err_and c.from_residual-in_err-scan.result c.from_residual-in_err-scan.ensures.1 in
     rw (p.1, p.2)

@@ -1,5 +1,5 @@
 use Rattle.std.proofs.Common.{◌≡◌, [], ◌∷◌, ◌++◌, IfOk, string_bytes, sym, ap, subst, ◌∙◌, arith}
-use Rattle.dk_pqmodel.specs.Laid.{first_leaf}
+use Rattle.dk_pqmodel.specs.Projection.{first_leaf}
 use Rattle.dk_pqmodel.specs.NodeView.{shape_of}
 use Rattle.dk_pqread.specs.PlanView.{path_of}
 use Rattle.dk_pqread.proofs.Cutting.{first_named}

@@ -1,5 +1,5 @@
 use Rattle.std.proofs.Common.{◌≡◌, drop}
-use Rattle.dk_pqmodel.specs.Laid.{all_missing}
+use Rattle.dk_pqmodel.specs.Projection.{all_missing}
 use Rattle.dk_pqread.specs.PlanView.{plans_of}
 use Rattle.dk_pqread.proofs.plan.all_missing.Given as goal
 

@@ -1,14 +1,14 @@
 use Rattle.std.proofs.Common.{◌≡◌, false, map, sym, ap, subst, ◌∙◌, arith}
 use Rattle.std.proofs.lemmas.Result.{err_from_is_err_and}
 use Rattle.dk_levels.specs.Solid.{IsReadable}
-use Rattle.dk_levels.proofs.Cuts.{cuts_are_readable}
+use Rattle.dk_levels.proofs.Cuts.{projected_is_readable}
 use Rattle.dk_pqmeta.specs.View.{footer_view, group_view}
-use Rattle.dk_pqmodel.specs.Laid.{all_missing, cuts_of, laid}
+use Rattle.dk_pqmodel.specs.Projection.{all_missing, projected_fields, projection}
 use Rattle.dk_pqmodel.specs.RowView.{rows_of}
 use Rattle.dk_pqmodel.specs.SchemaView.{fields_in}
 use Rattle.dk_pqread.specs.ColumnView.{column_at}
 use Rattle.dk_pqread.specs.Counts.{counts_agree}
-use Rattle.dk_pqread.specs.Faults.{columns_read}
+use Rattle.dk_pqmodel.specs.Faults.{columns_read}
 use Rattle.dk_pqread.specs.PlanView.{plans_of}
 use Rattle.dk_pqread.proofs.Answering.{all_viewed, counts_refused, file_found, file_refused, mean_as, opening_refused, other_rows, refused_as}
 use Rattle.dk_pqread.proofs.DistinctPaths.{groups_distinct}
@@ -36,8 +36,8 @@ pub read_groups-requires-clause-readable : goal.read_groups-requires-clause-read
 read_groups-requires-clause-readable c =
     let wanted = fields_in c.args.wanted.now in
     let fields = (footer_view c.in_ok-footer.field-0.footer).fields in
-    let same : plans_of c.deref-3.result.now ≡ laid wanted fields = ap plans_of c.deref-3.ensures.value ∙ c.in_ok-footer.ensures.2 in
-    subst (λ ps. all_missing ps ≡ false → IsReadable (cuts_of ps)) (sym same) (cuts_are_readable wanted fields c.args.wanted.now.is_schema)
+    let same : plans_of c.deref-3.result.now ≡ projection wanted fields = ap plans_of c.deref-3.ensures.value ∙ c.in_ok-footer.ensures.2 in
+    subst (λ ps. all_missing ps ≡ false → IsReadable (projected_fields ps)) (sym same) (projected_is_readable wanted fields c.args.wanted.now.is_schema)
 
 pub read_groups-requires-clause-distinct : goal.read_groups-requires-clause-distinct
 read_groups-requires-clause-distinct c =
@@ -52,7 +52,7 @@ returns-in_err-rows c =
     let clear = c.in_ok-footer.ensures.1 in
     let fault = c.in_err-rows.field-0.0 in
     let front = c.before_footer.ensures before clear.part clear.framed in
-    let plans : plans_of c.deref-3.result.now ≡ laid wanted footer.fields = ap plans_of c.deref-3.ensures.value ∙ c.in_ok-footer.ensures.2 in
+    let plans : plans_of c.deref-3.result.now ≡ projection wanted footer.fields = ap plans_of c.deref-3.ensures.value ∙ c.in_ok-footer.ensures.2 in
     let p = err_from_is_err_and c.from_residual-in_err-rows.result c.from_residual-in_err-rows.ensures.1 in
     rw (p.1, p.2) (file_refused wanted c.args.bytes.now before footer clear fault (refused_as fault front plans (ap (map group_view) c.deref-5.ensures.value) c.in_err-rows.ensures))
 
@@ -64,7 +64,7 @@ returns-then-len-footer c =
     let clear = c.in_ok-footer.ensures.1 in
     let rows = c.in_ok-rows.rows in
     let front = c.before_footer.ensures before clear.part clear.framed in
-    let plans : plans_of c.deref-3.result.now ≡ laid wanted footer.fields = ap plans_of c.deref-3.ensures.value ∙ c.in_ok-footer.ensures.2 in
+    let plans : plans_of c.deref-3.result.now ≡ projection wanted footer.fields = ap plans_of c.deref-3.ensures.value ∙ c.in_ok-footer.ensures.2 in
     file_found wanted c.args.bytes.now before footer clear (rows_of rows.items) (mean_as front plans (ap (map group_view) c.deref-5.ensures.value) (rows_of rows.items) c.in_ok-rows.ensures)
     (omega (arith, rows_counted rows.items, c.len.ensures, c.if-len-footer.true, rows.ok.0))
 
@@ -76,6 +76,6 @@ returns c =
     let clear = c.in_ok-footer.ensures.1 in
     let rows = c.in_ok-rows.rows in
     let front = c.before_footer.ensures before clear.part clear.framed in
-    let plans : plans_of c.deref-3.result.now ≡ laid wanted footer.fields = ap plans_of c.deref-3.ensures.value ∙ c.in_ok-footer.ensures.2 in
+    let plans : plans_of c.deref-3.result.now ≡ projection wanted footer.fields = ap plans_of c.deref-3.ensures.value ∙ c.in_ok-footer.ensures.2 in
     other_rows wanted c.args.bytes.now before footer clear (rows_of rows.items) (mean_as front plans (ap (map group_view) c.deref-5.ensures.value) (rows_of rows.items) c.in_ok-rows.ensures)
     (λ e. c.if-len-footer.false (omega (arith, e, rows_counted rows.items, c.len.ensures, rows.ok.0)))

@@ -1,6 +1,6 @@
 use Rattle.std.proofs.Common.{◌≡◌, length}
 use Rattle.std.specs.Vec.Iter.{into_iter_items, into_iter_len}
-use Rattle.dk_pqmodel.specs.Laid.{rows_widened}
+use Rattle.dk_pqmodel.specs.Projection.{rows_widened}
 use Rattle.dk_pqmodel.specs.RowView.{rows_of}
 use Rattle.dk_pqread.specs.Cells.{cells_then}
 use Rattle.dk_pqread.specs.PlanView.{plans_of}

@@ -1,7 +1,7 @@
 use Rattle.std.proofs.Common.{◌≡◌, drop, map}
 use Rattle.dk_pqmeta.specs.View.{group_view}
 use Rattle.dk_pqread.specs.PlanView.{path_of}
-use Rattle.dk_pqread.specs.Scans.{codec_in}
+use Rattle.dk_pqmodel.specs.Scans.{codec_in}
 use Rattle.dk_pqread.proofs.scan.codec_in.Given as goal
 
 abbrev pub invariant-loop-group : goal.invariant-loop-group

@@ -4,7 +4,7 @@ use Rattle.std.specs.Prelude.{FitsSigned}
 use Rattle.std.specs.Int.{w32}
 use Rattle.dk_pages.specs.Pages.{page_of}
 use Rattle.dk_pqread.specs.ColumnView.{column_at}
-use Rattle.dk_pqread.specs.Scans.{unread_from}
+use Rattle.dk_pqmodel.specs.Scans.{unread_from}
 use Rattle.dk_pqread.proofs.Scanning.{enough, ended, refused, goes_on}
 use Rattle.dk_pqread.proofs.scan.unread_in.Goals as goal
 

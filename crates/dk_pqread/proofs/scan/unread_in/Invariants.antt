@@ -1,7 +1,7 @@
 use Rattle.std.proofs.Common.{◌≡◌, ◌-◌, length}
 use Rattle.dk_pqmeta.specs.View.{chunk_view}
 use Rattle.dk_pqread.specs.ColumnView.{column_at}
-use Rattle.dk_pqread.specs.Scans.{unread_from, unread_in}
+use Rattle.dk_pqmodel.specs.Scans.{unread_from, unread_in}
 use Rattle.dk_pqread.proofs.scan.unread_in.Given as goal
 
 abbrev pub invariant-loop : goal.invariant-loop

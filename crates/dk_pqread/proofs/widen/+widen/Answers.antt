@@ -1,6 +1,6 @@
 use Rattle.std.proofs.Common.{◌<◌, length, ◌∙◌, arith}
 use Rattle.std.specs.Vec.Iter.{into_iter_items}
-use Rattle.dk_pqmodel.specs.Laid.{pair_of, widened}
+use Rattle.dk_pqmodel.specs.Projection.{pair_of, widened}
 use Rattle.dk_pqmodel.specs.RowView.{cells_of}
 use Rattle.dk_pqread.specs.PlanView.{plan_of}
 use Rattle.dk_pqread.proofs.InPlace.{length_written, place_turned, places_turned}

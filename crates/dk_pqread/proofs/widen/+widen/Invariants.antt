@@ -1,6 +1,6 @@
 use Rattle.std.proofs.Common.{◌≡◌, drop, length, take}
 use Rattle.std.specs.Vec.Iter.{into_iter_items}
-use Rattle.dk_pqmodel.specs.Laid.{pair_of, turned_all, widened, widened_each}
+use Rattle.dk_pqmodel.specs.Projection.{pair_of, turned_all, widened, widened_each}
 use Rattle.dk_pqmodel.specs.RowView.{cells_of}
 use Rattle.dk_pqread.specs.Cells.{cells_then}
 use Rattle.dk_pqread.specs.PlanView.{plan_of, plans_of}

@@ -2,7 +2,7 @@ use Rattle.std.proofs.Common.{◌∷◌, [], map, ap, ◌∙◌}
 use Rattle.std.proofs.lemmas.List.{map-append}
 use Rattle.std.proofs.lemmas.Result.{err_from_is_err_and}
 use Rattle.std.specs.Vec.Iter.{into_iter_items}
-use Rattle.dk_pqmodel.specs.ColumnView.{column_of, entry_of, value_of}
+use Rattle.dk_pqmodel.specs.ColumnView.{column_of, triple_of, value_of}
 use Rattle.dk_pqread.specs.Meanings.{levels_of}
 use Rattle.dk_pqread.proofs.ZipSteps.{triple_fails, triple_more}
 use Rattle.dk_pqread.proofs.zip.add_triples.Goals as goal
@@ -20,5 +20,5 @@ pub loop-place-preserved : goal.loop-place-preserved
 loop-place-preserved c =
     triple_more c.args.column.now.rep c.args.column.now.def (levels_of c.args.count c.args.repetitions.now) (levels_of c.args.count c.args.definitions.now) c.loop-place.place
     (column_of c.loop-place.triples) (map value_of (into_iter_items c.loop-place.values)) _ c.loop-place.invariant c.level-repetition.result c.level-definition.result c.level-repetition.ensures
-    c.level-definition.ensures (entry_of c.in_ok-triple.field-0) (map value_of (into_iter_items c.triple.new.values)) (column_of c.push.new.self) c.in_ok-triple.ensures
-    (ap (map entry_of) c.in_ok-push.ensures.items ∙ map-append entry_of c.loop-place.triples.items (c.in_ok-triple.field-0 ∷ []))
+    c.level-definition.ensures (triple_of c.in_ok-triple.field-0) (map value_of (into_iter_items c.triple.new.values)) (column_of c.push.new.self) c.in_ok-triple.ensures
+    (ap (map triple_of) c.in_ok-push.ensures.items ∙ map-append triple_of c.loop-place.triples.items (c.in_ok-triple.field-0 ∷ []))

@@ -1,7 +1,7 @@
 use Rattle.std.proofs.Common.{◌<◌, ◌≤◌, ◌≡◌, ◌+◌, ◌*◌, ◌^◌, ◌∙◌, length, map, ap, arith}
 use Rattle.std.proofs.lemmas.List.{length-map}
 use Rattle.std.proofs.lemmas.Result.{on_ok_weaker}
-use Rattle.dk_levels.specs.Borrowed.{entry_of}
+use Rattle.dk_levels.specs.Borrowed.{triple_of}
 use Rattle.dk_pqmodel.specs.Datum.{chars}
 use Rattle.dk_pqwrite.specs.FirstUses.{texts_in}
 use Rattle.dk_pqwrite.specs.WrittenColumn.{values_in}
@@ -12,14 +12,14 @@ use Rattle.dk_pqwrite.proofs.page.add_coded_page.Goals as goal
 pub add_places-requires-clause-fit : goal.add_places-requires-clause-fit
 add_places-requires-clause-fit c =
     let keys = c.args.dictionary.now.texts.keys in
-    rw (← length-map keys (λ (k : Key). k.now)) (places_fit (shown keys) c.args.dictionary.now.places.items (texts_in (map entry_of c.args.triples.now)) c.requires.places)
+    rw (← length-map keys (λ (k : Key). k.now)) (places_fit (shown keys) c.args.dictionary.now.places.items (texts_in (map triple_of c.args.triples.now)) c.requires.places)
 
 pub end_data_page-requires-clause-size : goal.end_data_page-requires-clause-size
 end_data_page-requires-clause-size c =
-    let entries = map entry_of c.args.triples.now in
+    let entries = map triple_of c.args.triples.now in
     let places = c.args.dictionary.now.places.items in
     let coded = c.in_ok-add_places.ensures (texts_in entries) c.requires.places in
-    let many = length-map c.args.triples.now entry_of in
+    let many = length-map c.args.triples.now triple_of in
     let few : length entries ≤ 2 ^ 26 = omega (arith, many, c.requires.few) in
     let theirs : length places ≡ length (texts_in entries) = as_many_places (shown c.args.dictionary.now.texts.keys) places (texts_in entries) c.requires.places in
     let again : length (values_in entries) ≡ length (texts_in entries) = ap length (text_values entries (rw c.requires.kind at c.requires.fit)) ∙ length-map (texts_in entries) chars in
@@ -29,10 +29,10 @@ end_data_page-requires-clause-size c =
 
 pub returns : goal.returns
 returns c =
-    let entries = map entry_of c.args.triples.now in
+    let entries = map triple_of c.args.triples.now in
     let places = c.args.dictionary.now.places.items in
     let coded = c.in_ok-add_places.ensures (texts_in entries) c.requires.places in
-    let many = length-map c.args.triples.now entry_of in
+    let many = length-map c.args.triples.now triple_of in
     let few : length entries ≤ 2 ^ 26 = omega (arith, many, c.requires.few) in
     on_ok_weaker c.end_data_page.result
     (λ h. rw (← many) (coded_page c.args.column entries (shown c.args.dictionary.now.texts.keys) places c.in_ok-body.body.items c.add_places.new.out.items c.args.out.now.items c.end_data_page.new.out.items

@@ -4,15 +4,15 @@ use Rattle.dk_pqmodel.specs.Shape.{Fields}
 use Rattle.dk_pqmodel.specs.Footer.{Footer}
 use Rattle.dk_pqmodel.specs.FooterBytes.{IsFramed, SpellsFooter, HasFooter}
 use Rattle.dk_pqmodel.specs.FilePages.{ColumnAt}
-use Rattle.dk_pqmodel.specs.Laid.{Path, laid, first_misfit, dotted}
+use Rattle.dk_pqmodel.specs.Projection.{Path, projection, first_misfit, dotted}
 use Rattle.dk_pqmodel.specs.FileMeans.{columns_of}
 use Rattle.dk_pqmodel.specs.declared.fault.PqFault.{PqFault}
 use Rattle.dk_pqmodel.specs.declared.fault.PqFault.TheVariants.{NotParquet, Shape, Compressed, Encoding, Broken, OutOfMemory}
-use Rattle.dk_pqread.specs.Scans.{first_compressed, first_unread}
+use Rattle.dk_pqmodel.specs.Scans.{first_compressed, first_unread}
 
 -- the columns that are read of the file
 abbrev pub columns_read : Fields → Footer → List ColumnAt
-columns_read wanted footer = columns_of (laid wanted footer.fields) 0 0
+columns_read wanted footer = columns_of (projection wanted footer.fields) 0 0
 
 -- the magic or the footer's length doesn't fit
 abbrev pub NotFramed : List ℕ → Type 0

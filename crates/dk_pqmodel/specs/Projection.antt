@@ -4,7 +4,8 @@
 -- them, and a wanted field that the file lacks is null.
 use Rattle.std.specs.Prelude.{ℕ, Bool, true, false, ◌&&◌, List, [], ◌∷◌, ◌++◌, codes, Option, Some, None, option_map, option_and_then, if◌then◌else◌}
 use Rattle.std.specs.List.{join_with_byte}
-use Rattle.dk_pqmodel.specs.Shape.{Leaf, chars, Shape, Field, field, Fields, no_fields, one_field, leaf, dictionary}
+use Rattle.dk_grammar.specs.Structs.{first_of_two}
+use Rattle.dk_pqmodel.specs.Shape.{Leaf, chars, Shape, Field, field, Fields, no_fields, one_field, leaf, map_of}
 use Rattle.dk_pqmodel.specs.Shape as shape
 use Rattle.dk_pqmodel.specs.Datum.{Datum, null, atom, group, list, Cells, no_cells, one_cell}
 use Rattle.dk_pqmodel.specs.FileSchema.{FileNode, FileNodes, node_name, is_optional, named_in, leaf_kind, group_nodes, repeated_node, only_node, two_nodes}
@@ -56,29 +57,29 @@ entries_of b k path p = on_some (leaf_kind chars k) (λ l. entries b (is_optiona
 
 abbrev mutual
   -- the plan of a wanted shape at the file's node, whose path is given
-  pub laid_at : Shape → Path → FileNode → Plan
-  laid_at (leaf l) path n = on_some (leaf_kind l n) (λ kind. value (is_optional n) kind path)
-  laid_at (shape.group fs) path n = on_some (group_nodes n) (λ ns. members_of (is_optional n) (laid_each fs path ns))
-  laid_at (shape.list f) path n =
-      on_some (repeated_node n) (λ r. on_some (only_node r) (λ e. elements_of (is_optional n) (laid_in f (path ++ node_name r ∷ node_name e ∷ []) e)))
-  laid_at (dictionary f) path n =
+  pub projection_at : Shape → Path → FileNode → Plan
+  projection_at (leaf l) path n = on_some (leaf_kind l n) (λ kind. value (is_optional n) kind path)
+  projection_at (shape.group fs) path n = on_some (group_nodes n) (λ ns. members_of (is_optional n) (projection_each fs path ns))
+  projection_at (shape.list f) path n =
+      on_some (repeated_node n) (λ r. on_some (only_node r) (λ e. elements_of (is_optional n) (projection_in f (path ++ node_name r ∷ node_name e ∷ []) e)))
+  projection_at (map_of f) path n =
       on_some (repeated_node n) (λ r. on_some (two_nodes r) (λ pair.
-      entries_of (is_optional n) pair.0 (path ++ node_name r ∷ node_name pair.0 ∷ []) (laid_in f (path ++ node_name r ∷ node_name pair.1 ∷ []) pair.1)))
+      entries_of (is_optional n) pair.0 (path ++ node_name r ∷ node_name pair.0 ∷ []) (projection_in f (path ++ node_name r ∷ node_name pair.1 ∷ []) pair.1)))
 
-  pub laid_in : Field → Path → FileNode → Plan
-  laid_in (field name nullable s) path n = laid_at s path n
+  pub projection_in : Field → Path → FileNode → Plan
+  projection_in (field name nullable s) path n = projection_at s path n
 
   -- each wanted field at the node of its name
-  pub laid_each : Fields → Path → FileNodes → Plans
-  laid_each no_fields path ns = no_plans
-  laid_each (one_field f fs) path ns = one_plan (laid_named f path ns) (laid_each fs path ns)
+  pub projection_each : Fields → Path → FileNodes → Plans
+  projection_each no_fields path ns = no_plans
+  projection_each (one_field f fs) path ns = one_plan (projection_named f path ns) (projection_each fs path ns)
 
-  pub laid_named : Field → Path → FileNodes → Plan
-  laid_named (field name nullable s) path ns = on_some (named_in name ns) (λ n. laid_at s (path ++ name ∷ []) n)
+  pub projection_named : Field → Path → FileNodes → Plan
+  projection_named (field name nullable s) path ns = on_some (named_in name ns) (λ n. projection_at s (path ++ name ∷ []) n)
 
 -- the plans of a wanted schema over the nodes at the top of the file's
-abbrev pub laid : Fields → FileNodes → Plans
-laid fs ns = laid_each fs [] ns
+abbrev pub projection : Fields → FileNodes → Plans
+projection fs ns = projection_each fs [] ns
 
 -- ---- the part of the file's own schema that is read
 
@@ -95,16 +96,16 @@ abbrev pub file_entry : Bool → Option Field → Field
 file_entry k v = field [] false (shape.group (one_field (field [] k (leaf chars)) (field_then v no_fields)))
 
 abbrev mutual
-  pub cut_of : Plan → Option Field
-  cut_of missing = None
-  cut_of (value b l path) = field_at b (leaf l)
-  cut_of (members b ps) = field_at b (shape.group (cuts_of ps))
-  cut_of (elements b p) = option_map (λ f. field [] b (shape.list f)) (cut_of p)
-  cut_of (entries b k path p) = field_at b (shape.list (file_entry k (cut_of p)))
+  pub projected_field : Plan → Option Field
+  projected_field missing = None
+  projected_field (value b l path) = field_at b (leaf l)
+  projected_field (members b ps) = field_at b (shape.group (projected_fields ps))
+  projected_field (elements b p) = option_map (λ f. field [] b (shape.list f)) (projected_field p)
+  projected_field (entries b k path p) = field_at b (shape.list (file_entry k (projected_field p)))
 
-  pub cuts_of : Plans → Fields
-  cuts_of no_plans = no_fields
-  cuts_of (one_plan p ps) = field_then (cut_of p) (cuts_of ps)
+  pub projected_fields : Plans → Fields
+  projected_fields no_plans = no_fields
+  projected_fields (one_plan p ps) = field_then (projected_field p) (projected_fields ps)
 
 -- the paths of its columns, in order
 abbrev mutual
@@ -176,7 +177,7 @@ abbrev mutual
   first_leaf (leaf l) path = path
   first_leaf (shape.group fs) path = first_leaf_of fs path
   first_leaf (shape.list f) path = first_leaf_in f (path ++ codes "list" ∷ codes "element" ∷ [])
-  first_leaf (dictionary f) path = path ++ codes "key_value" ∷ codes "key" ∷ []
+  first_leaf (map_of f) path = path ++ codes "key_value" ∷ codes "key" ∷ []
 
   pub first_leaf_in : Field → Path → Path
   first_leaf_in (field name nullable s) path = first_leaf s path
@@ -184,10 +185,6 @@ abbrev mutual
   pub first_leaf_of : Fields → Path → Path
   first_leaf_of no_fields path = path
   first_leaf_of (one_field (field name nullable s) fs) path = first_leaf s (path ++ name ∷ [])
-
-abbrev pub or_else : Option Path → Option Path → Option Path
-or_else None other = other
-or_else (Some path) other = Some path
 
 abbrev pub misfit_unless : {A : Type 0} → Option A → Path → (A → Option Path) → Option Path
 misfit_unless None path f = Some path
@@ -201,16 +198,16 @@ abbrev mutual
   misfit_at (shape.list f) path n =
       misfit_unless (repeated_node n) (first_leaf (shape.list f) path) (λ r. misfit_unless (only_node r) (first_leaf (shape.list f) path) (λ e.
       misfit_in f (path ++ codes "list" ∷ codes "element" ∷ []) e))
-  misfit_at (dictionary f) path n =
-      misfit_unless (repeated_node n) (first_leaf (dictionary f) path) (λ r. misfit_unless (two_nodes r) (first_leaf (dictionary f) path) (λ pair.
-      misfit_unless (leaf_kind chars pair.0) (first_leaf (dictionary f) path) (λ l. misfit_in f (path ++ codes "key_value" ∷ codes "value" ∷ []) pair.1)))
+  misfit_at (map_of f) path n =
+      misfit_unless (repeated_node n) (first_leaf (map_of f) path) (λ r. misfit_unless (two_nodes r) (first_leaf (map_of f) path) (λ pair.
+      misfit_unless (leaf_kind chars pair.0) (first_leaf (map_of f) path) (λ l. misfit_in f (path ++ codes "key_value" ∷ codes "value" ∷ []) pair.1)))
 
   pub misfit_in : Field → Path → FileNode → Option Path
   misfit_in (field name nullable s) path n = misfit_at s path n
 
   pub misfit_each : Fields → Path → FileNodes → Option Path
   misfit_each no_fields path ns = None
-  misfit_each (one_field f fs) path ns = or_else (misfit_named f path ns) (misfit_each fs path ns)
+  misfit_each (one_field f fs) path ns = first_of_two (misfit_named f path ns) (misfit_each fs path ns)
 
   -- A wanted field that the file lacks differs in nothing.
   pub misfit_named : Field → Path → FileNodes → Option Path

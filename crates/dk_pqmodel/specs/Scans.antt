@@ -3,12 +3,12 @@ use Rattle.std.specs.Prelude.{ℕ, zero, suc, ◌-◌, ◌==◌, ◌||◌, Bool,
 use Rattle.std.specs.Ordering.{int_eq}
 use Rattle.dk_grammar.specs.Structs.{first_of_two}
 use Rattle.dk_pqmodel.specs.Shape.{Leaf, flag, int32, int64, chars}
-use Rattle.dk_pqmodel.specs.Laid.{Path}
+use Rattle.dk_pqmodel.specs.Projection.{Path}
 use Rattle.dk_pqmodel.specs.Footer.{Chunk, RowGroup, is_path}
 use Rattle.dk_pqmodel.specs.FilePages.{ColumnAt}
-use Rattle.dk_pages.specs.Pages.{Page, page_at}
-use Rattle.dk_pages.specs.declared.header.PageKind.{PageKind}
-use Rattle.dk_pages.specs.declared.header.PageKind.TheVariants.{DataV1, DataV2, Dictionary}
+use Rattle.dk_pqmodel.specs.Pages.{Page, page_at}
+use Rattle.dk_pqmodel.specs.declared.page.PageKind.{PageKind}
+use Rattle.dk_pqmodel.specs.declared.page.PageKind.TheVariants.{DataV1, DataV2, Dictionary}
 
 -- the chunk of a path
 abbrev pub chunk_at : Path → List (Path × Chunk) → Option Chunk
