@@ -136,8 +136,11 @@ fn slots_of(
     Ok(slots)
 }
 
-/// The pairs of the slots.
-fn pairs_of_slots(alloc: Global, slots: TextMap<Option<Option<Text>>>) -> Result<Pairs, ActionFault>
+/// The pairs of keys that each have a text or null, in the byte order of the keys; `Bad` where one has neither.
+pub fn pairs_of_slots(
+    alloc: Global,
+    slots: TextMap<Option<Option<Text>>>,
+) -> Result<Pairs, ActionFault>
     ensures { Gives result (all_slots (map.entries slots)) }
 {
     let mut list = Vec::with_capacity(alloc, slots.len())?;

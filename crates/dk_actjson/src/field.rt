@@ -66,10 +66,7 @@ pub(crate) fn needed_group<T: Tree>(object: T, key: &str) -> Result<T, ActionFau
 }
 
 /// The object of that name, where it is there.
-pub(crate) fn optional_group<T: Tree>(
-    object: T,
-    key: &str,
-) -> Result<Option<T>, ActionFault>
+pub(crate) fn optional_group<T: Tree>(object: T, key: &str) -> Result<Option<T>, ActionFault>
     ensures { GivesBy (option_map T.meant) result
         (optional_of group key.now (T.meant object)) }
 {

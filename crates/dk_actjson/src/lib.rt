@@ -18,6 +18,7 @@ mod write;
 mod written;
 
 pub use action::{action_of, read_action};
+pub use borrowed::pairs_of_slots;
 pub use fault::ActionFault;
 pub use read::read_commit;
 pub use tree::Tree;
