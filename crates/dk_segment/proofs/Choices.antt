@@ -1,8 +1,7 @@
 -- What is walked behind a base is what is chosen, and what is chosen by commits alone.
-use Rattle.std.proofs.Common.{◌≡◌, ℕ, suc, ◌+◌, Bool, List, refl, sym, ap, ap₂, ◌∙◌, if◌then◌else◌, false}
+use Rattle.std.proofs.Common.{◌≡◌, ℕ, suc, Bool, List, refl, sym, ap, ap₂, ◌∙◌, false}
 use Rattle.std.specs.Prelude.{Option, Some, None, Result, Ok, Err, option_map}
-use Rattle.std.specs.Ordering.{nat_cmp}
-use Rattle.std.specs.BTreeMap.{BTreeMap, get}
+use Rattle.std.specs.BTreeMap.{BTreeMap}
 use Rattle.dk_paths.specs.Names.{commit_path}
 use Rattle.dk_paths.specs.Places.{Place}
 use Rattle.dk_lawful.specs.declared.segment.CheckpointRef.{CheckpointRef}
@@ -10,14 +9,14 @@ use Rattle.dk_lawful.specs.declared.segment.Checkpoints.TheVariants.{No}
 use Rattle.dk_lawful.specs.declared.segment.Choice.{Choice}
 use Rattle.dk_lawful.specs.declared.segment.Segment.{Segment}
 use Rattle.dk_lawful.specs.declared.segment.Step.{Step}
-use Rattle.dk_lawful.specs.Segments.{is_among, base_of, begins_at, commit_place, furthest, steps_of, step_at, gap_to, walked_to}
+use Rattle.dk_lawful.specs.Segments.{base_of, begins_at, commit_place, steps_of, step_at, gap_to, walked_to}
 use Rattle.dk_lawful.proofs.Openable.{plain_is_by_commits}
 use Rattle.dk_engine.specs.declared.refusal.Refusal.{Refusal}
 use Rattle.dk_listing.specs.declared.catalogued.Catalogued.{Catalogued}
 use Rattle.dk_listing.specs.Presence.{lists, listed_places, ratified_name}
 use Rattle.dk_segment.specs.declared.commit_index.CommitIndex.{CommitIndex}
 use Rattle.dk_segment.specs.Chosen.{chosen, chosen_segment, unless_gap}
-use Rattle.dk_segment.specs.CommitIndex.{IsIndexOf, has_place, has_name}
+use Rattle.dk_segment.specs.CommitIndex.{IsIndexOf}
 use Rattle.dk_segment.specs.Places.{HasAllowed}
 use Rattle.dk_segment.specs.Walked.{steps_known, stepped, unless_absent}
 use Rattle.dk_segment.proofs.Agree.{indexed_place}

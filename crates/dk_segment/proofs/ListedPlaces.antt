@@ -1,5 +1,5 @@
 -- The places of a listing are those that it lists, and what is chosen of them is chosen by names.
-use Rattle.std.proofs.Common.{◌≡◌, ℕ, zero, suc, List, [], ◌∷◌, ◌++◌, map, Bool, true, false, if◌then◌else◌, refl, sym, ap, ap₂, ◌∙◌}
+use Rattle.std.proofs.Common.{◌≡◌, ℕ, zero, suc, List, [], ◌∷◌, map, Bool, true, false, if◌then◌else◌, refl, sym, ap, ap₂, ◌∙◌}
 use Rattle.std.specs.Prelude.{Option, Some, None, is_some, option_and_then, filter, ◌==◌, ◌&&◌, ◌||◌}
 use Rattle.std.specs.List.{cons_option, filter_map, list_any}
 use Rattle.std.proofs.lemmas.List.Folds.{list_any-append}
@@ -8,7 +8,7 @@ use Rattle.dk_paths.specs.declared.log_name.LogName.TheVariants as names
 use Rattle.dk_paths.specs.Places.{Place, Commit_at, Classic, Part, V2, Compacted, Hint, Sidecar, Staged, Other}
 use Rattle.dk_lawful.specs.declared.segment.CheckpointRef.{CheckpointRef}
 use Rattle.dk_lawful.specs.declared.segment.Checkpoints.{Checkpoints}
-use Rattle.dk_lawful.specs.Segments.{is_same_place, is_among, has_parts, complete_at, is_allowed, base_version, parts_at, id_at, by_parts, classic_ref, checkpoint_at, base_of, reached_by, furthest, greatest, least}
+use Rattle.dk_lawful.specs.Segments.{is_same_place, is_among, has_parts, complete_at, is_allowed, parts_at, id_at, by_parts, classic_ref, checkpoint_at, base_of, reached_by, furthest, greatest, least}
 use Rattle.dk_listing.specs.declared.catalogued.Catalogued.{Catalogued}
 use Rattle.dk_listing.specs.declared.named.Named.{Named}
 use Rattle.dk_listing.specs.declared.named.Staged as entries
@@ -30,6 +30,9 @@ same_at (V2 version id false) (names.V2Json v i) = refl
 same_at (V2 version id false) (names.V2Parquet v i) = refl
 same_at (Compacted first last) (names.Compacted x y) = refl
 same_at Hint names.Hint = refl
+same_at (Sidecar name) (names.Commit v) = refl
+same_at (Staged version id) (names.Commit v) = refl
+same_at (Other path) (names.Commit v) = refl
 same_at _ _ = refl
 
 none_any : {X : Type 0} (xs : List X) → list_any (λ (x : X). false) xs ≡ false
@@ -175,7 +178,7 @@ module _ (listing : Catalogued) where
   id_name : (version : ℕ) (name : LogName) → option_and_then (id_at version) (named_place name) ≡ if_begins has (id_of_name version) name
   id_name version (names.Part v part parts) = by (part == 1 && all_up_to (has v parts) parts)
     where
-      by : (all : Bool) → None ≡ (if is_some (if all then Some v else None) then None else None)
+      by : (all : Bool) → ◌≡◌ {A = Option ℕ} None (if is_some (if all then Some v else None) then None else None)
       by true = refl
       by false = refl
   id_name version (names.Commit v) = refl

@@ -1,5 +1,5 @@
 -- One more compacted file in the map of those that reach furthest, and that each goes on.
-use Rattle.std.proofs.Common.{◌≡◌, ℕ, ◌+◌, ◌<◌, ◌≤◌, List, [], ◌∷◌, length, take, get_or, Bool, true, false, cond, if◌then◌else◌, refl, sym, ap, ap₂, subst, ◌∙◌, arith, inl, inr}
+use Rattle.std.proofs.Common.{◌≡◌, ℕ, ◌+◌, ◌<◌, ◌≤◌, List, [], ◌∷◌, length, take, get_or, Bool, true, false, cond, if◌then◌else◌, refl, sym, ap, subst, ◌∙◌, arith, inl, inr}
 use Rattle.std.specs.Prelude.{Option, Some, None, IfSome, All, nat_le, ◌==◌, ◌&&◌}
 use Rattle.std.specs.List.{AllByRecursion}
 use Rattle.std.specs.Ordering.{nat_cmp}
@@ -12,10 +12,9 @@ use Rattle.dk_paths.specs.declared.log_name.LogName.{LogName}
 use Rattle.dk_paths.specs.declared.log_name.LogName.TheVariants as names
 use Rattle.dk_lawful.specs.declared.segment.Checkpoints.{Checkpoints}
 use Rattle.dk_lawful.specs.declared.segment.Checkpoints.TheVariants.{No, Newest, AtMost}
-use Rattle.dk_lawful.specs.Segments.{is_allowed}
 use Rattle.dk_listing.specs.declared.named.Named.{Named}
 use Rattle.dk_listing.specs.Newest.{later, newest_by, is_rising, checkpoint_version}
-use Rattle.dk_segment.specs.Places.{if_allowed, allowed_version, compacted_of, reached_by_name, reached_in, HasReaches, HasAllowed, WidensReach, AddsReach, AreReached}
+use Rattle.dk_segment.specs.Places.{if_allowed, allowed_version, compacted_of, reached_by_name, HasReaches, WidensReach, AddsReach, AreReached}
 use Rattle.dk_segment.proofs.Best.{later_right, newest_more, newest_has}
 use Rattle.dk_segment.proofs.Sets.{one_same}
 

@@ -1,9 +1,7 @@
 -- One more step of a walk, its end, and its gap.
-use Rattle.std.proofs.Common.{◌≡◌, ℕ, zero, suc, ◌+◌, ◌-◌, ◌<◌, ◌≤◌, List, [], ◌∷◌, ◌++◌, Bool, true, false, if◌then◌else◌, refl, sym, ap, ap₂, subst, ◌∙◌, arith, append_assoc, append-nil}
+use Rattle.std.proofs.Common.{◌≡◌, ℕ, zero, suc, ◌+◌, ◌-◌, ◌<◌, ◌≤◌, List, [], ◌∷◌, ◌++◌, true, false, refl, sym, ap, ap₂, ◌∙◌, arith, append_assoc, append-nil}
 use Rattle.std.specs.Prelude.{Option, Some, None, IfSome, Ok, Err, nat_lt, option_map}
 use Rattle.std.specs.Option.{option_or}
-use Rattle.std.specs.Ordering.{nat_cmp}
-use Rattle.std.specs.BTreeMap.{BTreeMap, get}
 use Rattle.std.proofs.lemmas.Bool.Decides.{nat_tests}
 use Rattle.dk_paths.specs.Names.{commit_path}
 use Rattle.dk_paths.specs.Places.{Place}
@@ -11,9 +9,7 @@ use Rattle.dk_lawful.specs.declared.segment.Step.{Step}
 use Rattle.dk_lawful.specs.Segments.{walked_to, gap_to, after_step, commit_step, compacted_step, step_at}
 use Rattle.dk_engine.specs.declared.refusal.Refusal.TheVariants.{Missing}
 use Rattle.dk_segment.specs.declared.commit_index.CommitObject.{CommitObject}
-use Rattle.dk_segment.specs.declared.stepping.Found.{Found}
 use Rattle.dk_segment.specs.declared.stepping.Found.TheVariants as founds
-use Rattle.dk_segment.specs.Places.{AreReached}
 use Rattle.dk_segment.specs.Walked.{object_place, step_found, stepped, unless_absent}
 
 -- ---- the step of a version

@@ -1,11 +1,11 @@
 -- The checkpoint that a version goes on from, and the compacted files, by a listing.
-use Rattle.std.specs.Prelude.{ℕ, ◌≡◌, ◌<◌, ◌≤◌, ◌==◌, ◌&&◌, nat_le, Bool, true, false, min, Option, Some, None, List, option_and_then, if◌then◌else◌}
+use Rattle.std.specs.Prelude.{ℕ, ◌≡◌, ◌<◌, ◌≤◌, ◌==◌, ◌&&◌, nat_le, Bool, min, Option, Some, None, List, option_and_then, if◌then◌else◌}
 use Rattle.std.specs.List.{fold}
 use Rattle.std.specs.Ordering.{nat_cmp}
 use Rattle.std.specs.BTreeMap.{BTreeMap, get}
 use Rattle.dk_paths.specs.declared.log_name.LogName.{LogName}
 use Rattle.dk_paths.specs.declared.log_name.LogName.TheVariants as names
-use Rattle.dk_paths.specs.Places.{Place, Classic, V2}
+use Rattle.dk_paths.specs.Places.{Classic}
 use Rattle.dk_lawful.specs.declared.segment.CheckpointRef.{CheckpointRef}
 use Rattle.dk_lawful.specs.declared.segment.Checkpoints.{Checkpoints}
 use Rattle.dk_lawful.specs.Segments.{is_allowed, by_parts, classic_ref, parts_ref, v2_ref}

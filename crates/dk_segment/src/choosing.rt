@@ -3,7 +3,7 @@ ghost use Rattle.std.specs.Prelude.{◌<◌, ◌≤◌, ◌+◌, ◌^◌, IfErr,
 ghost use Rattle.dk_engine.specs.Answers.{Gives};
 ghost use Rattle.dk_listing.specs.Presence.{listed_places, lists, ratified_name};
 ghost use Rattle.dk_lawful.specs.Segments.{begins_at, commit_place, steps_of, version_of};
-ghost use Rattle.dk_segment.specs.Chosen.{ChooseRefuses, chosen_segment};
+ghost use Rattle.dk_segment.specs.Chosen.{ChooseRefuses, chosen, chosen_segment};
 ghost use Rattle.dk_segment.specs.Walked.{stepped, walked};
 ghost use Rattle.dk_segment.specs.Places.{reference};
 
@@ -13,7 +13,7 @@ use crate::compacted::index_compacted;
 use crate::stepping::walk_to;
 use crate::walk::walk;
 use dk_engine::Refusal;
-use dk_lawful::{Choice, Segment, Step, StepList};
+use dk_lawful::{Checkpoints, Choice, Segment, Step, StepList};
 use dk_listing::Catalogued;
 use std::alloc::Global;
 
@@ -65,6 +65,26 @@ pub fn choose(
             steps: StepList::new(steps),
         }),
     }
+}
+
+/// The same where neither a checkpoint nor a compacted file is chosen, whatever the choice says of them: each commit from version
+/// 0 on.
+pub fn choose_commits(
+    alloc: Global,
+    listing: &Catalogued,
+    version: u64,
+    choice: &Choice,
+) -> Result<Segment, Refusal>
+    requires { version < 2 ^ 63 }
+    ensures means { Gives (λ segment. segment) result (chosen (lists listing.now) (ratified_name listing.now) version choice.now) }
+    ensures refusals { IfErr result ChooseRefuses }
+{
+    let plain = Choice {
+        checkpoints: Checkpoints::No,
+        compacted: false,
+        staged_first: choice.staged_first,
+    };
+    choose(alloc, listing, version, &plain)
 }
 
 /// From where the commits of the `count` versions from `first` on are read, each by itself and in their order: the published

@@ -69,12 +69,13 @@ pub(crate) fn index_compacted(
     allowed: bool,
     asked: u64,
 ) -> Result<Reaches, AllocError>
-    requires { All (λ named. is_rising named.name ≡ true) log.now }
+    requires rising { All (λ named. is_rising named.name ≡ true) log.now }
     ensures has { IfOk result (λ reaches. HasAllowed reaches log.now allowed asked) }
     ensures reached { IfOk result (λ reaches. AreReached reaches asked) }
 {
     if allowed {
-        reaches_of(alloc, log, asked)
+        let reaches = reaches_of(alloc, log, asked)?;
+        Ok(reaches)
     } else {
         Ok(BTreeMap::new(alloc))
     }

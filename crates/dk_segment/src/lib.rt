@@ -11,4 +11,4 @@ mod compacted;
 mod stepping;
 mod walk;
 
-pub use choosing::{choose, find_commits};
+pub use choosing::{choose, choose_commits, find_commits};
