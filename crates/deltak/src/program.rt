@@ -5,7 +5,7 @@ use crate::folder::Folder;
 use dk_cli::{fault_line, run};
 use dk_dir::{StdSink, StdSource};
 use dk_engine::{Engine, Limits};
-use dk_handlers::SerdeJson;
+use dk_handlers::{PlainParquet, SerdeJson};
 use std::alloc::AllocGlobal;
 use std::env;
 use std::io::Eprint;
@@ -62,6 +62,8 @@ fn carry_out(
     let mut engine = Engine {
         store: Box::new(alloc, store)?,
         json: Box::new(alloc, SerdeJson::new())?,
+        parquet: Box::new(alloc, PlainParquet::new())?,
+        spares: Vec::new(alloc),
         limits: Limits::usual(),
     };
     let mut input = StdSource::new(rt);

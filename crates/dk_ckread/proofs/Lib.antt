@@ -1,3 +1,4 @@
 pub mod FilesMean
-pub mod ParquetExample
 pub mod ForbiddenParquet
+pub mod ParquetExample
+pub mod SidecarExample

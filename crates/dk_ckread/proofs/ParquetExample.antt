@@ -22,7 +22,7 @@ use Rattle.dk_model.specs.WellKept.{IsWellKept}
 use Rattle.dk_model.specs.Ranges.{IsInRange}
 use Rattle.dk_model.proofs.TextMaps.{text_order}
 use Rattle.dk_model.proofs.WellKept.{step_keeps, empty_is_kept}
-use Rattle.dk_store.specs.Told.{Told, Made, Deleted}
+use Rattle.dk_store.specs.Told.{Told, Made}
 use Rattle.dk_paths.specs.Places.{Place, Commit_at, Classic, Part, V2, Sidecar, place_path, IsPlace}
 use Rattle.dk_paths.proofs.PlaceLaws.{place_of_path}
 use Rattle.dk_lawful.specs.Agree.{Agree}
@@ -34,16 +34,15 @@ use Rattle.dk_lawful.specs.ContentLaws.{WrittenOf, sidecars_content}
 use Rattle.dk_lawful.specs.Contents.{mark, classic_content, part_content, v2_content}
 use Rattle.dk_lawful.specs.Example.{first_text, first_actions, second_actions, example}
 use Rattle.dk_lawful.specs.History.{RatifiedCommit, after_made, history, commits_of}
-use Rattle.dk_lawful.specs.Lawful.{Lawful}
 use Rattle.dk_lawful.specs.MoreExamples.{IsLawfulAfter, side_name}
-use Rattle.dk_lawful.specs.Permits.{MayMake, MayDelete}
 use Rattle.dk_lawful.specs.Present.{Holds, Present, AtMostPublished}
+use Rattle.dk_lawful.proofs.CheckpointExample.{OnlyAt, also_at, made, gone}
 use Rattle.dk_lawful.proofs.Example.{example_is_lawful, only_commits}
 use Rattle.dk_lawful.proofs.MayBeMade.{classic_may_be_made, part_may_be_made, v2_may_be_made}
 use Rattle.dk_lawful.proofs.MoreExamples.{free_at, example_published, example_commits}
 use Rattle.dk_lawful.proofs.OnTexts.{commits_on_literals, rules_on_literals}
 use Rattle.dk_lawful.proofs.SegmentsAgree.{agrees_itself}
-use Rattle.dk_lawful.proofs.Standing.{found_made, kept_made, made_here}
+use Rattle.dk_lawful.proofs.Standing.{kept_made, made_here}
 use Rattle.dk_pqread.proofs.OneList.{one_list}
 use Rattle.dk_ckread.specs.ParquetFiles.{head_file, add_file}
 use Rattle.dk_ckread.specs.ParquetRows.{head_rows, add_rows}
@@ -150,18 +149,7 @@ second_part_is cut = rw files_are refl
 
 -- ---- what is there
 
--- an object at a place after another one was made
-abbrev OnlyAt : List Told → (Place → Type 0) → Type 0
-OnlyAt events P = (place : Place) (held : List ℕ) → Holds events place held → P place
-
-also_at : (events : List Told) (P : Place → Type 0) (here : Place) (bytes : List ℕ) (stamp : ℤ) → IsPlace here → OnlyAt events P
-    → OnlyAt (Made (place_path here) bytes stamp ∷ events) (λ place. (here ≡ place) ⊎ P place)
-also_at events P here bytes stamp is only place held holds = elim (found_made events (place_path here) bytes stamp place held holds) [
-  | inl (at, same) ↦ inl (sym (place_of_path here is) ∙ at)
-  | inr before ↦ inr (only place held before)
-]
-
-abbrev IsCommitPlace : Place → Type 0
+abbrev pub IsCommitPlace : Place → Type 0
 IsCommitPlace place = (version : ℕ) × (Commit_at version ≡ place)
 
 classic_place : IsPlace (Classic 0)
@@ -173,16 +161,16 @@ first_place = ((omega arith), record { first = omega arith; last = omega arith; 
 second_place : IsPlace (Part 1 2 2)
 second_place = ((omega arith), record { first = omega arith; last = omega arith; small = omega arith })
 
-side_place : IsPlace (Sidecar side_name)
+pub side_place : IsPlace (Sidecar side_name)
 side_place = refl
 
-top_place : IsPlace (V2 1 7 true)
+pub top_place : IsPlace (V2 1 7 true)
 top_place = ((omega arith), (omega arith))
 
 only_first : OnlyAt (first_part example) (λ place. (Part 1 1 2 ≡ place) ⊎ IsCommitPlace place)
 only_first = also_at example IsCommitPlace (Part 1 1 2) head_file (pos 2) first_place only_commits
 
-only_side : OnlyAt (sidecar_made example) (λ place. (Sidecar side_name ≡ place) ⊎ IsCommitPlace place)
+pub only_side : OnlyAt (sidecar_made example) (λ place. (Sidecar side_name ≡ place) ⊎ IsCommitPlace place)
 only_side = also_at example IsCommitPlace (Sidecar side_name) add_file (pos 2) side_place only_commits
 
 no_classic : (held : List ℕ) → Holds example (Classic 0) held → ⊥
@@ -210,15 +198,6 @@ no_top held holds = elim (only_side (V2 1 7 true) held holds) [
 ]
 
 -- ---- the lists
-
--- one more event on a lawful list
-made : (events : List Told) (place : Place) (bytes : List ℕ) (stamp horizon : ℤ) → Lawful events horizon → IsPlace place → ((held : List ℕ) → Holds events place held → ⊥)
-    → MayMake events place bytes horizon → Lawful (Made (place_path place) bytes stamp ∷ events) horizon
-made events place bytes stamp horizon lawful is none may =
-    ((free_at events place is none, subst (λ p. MayMake events p bytes horizon) (sym (place_of_path place is)) may), lawful)
-
-gone : (events : List Told) (place : Place) (horizon : ℤ) → Lawful events horizon → IsPlace place → MayDelete events place → Lawful (Deleted (place_path place) ∷ events) horizon
-gone events place horizon lawful is may = (subst (MayDelete events) (sym (place_of_path place is)) may, lawful)
 
 -- the history stays that of the example, and the last commit stays
 quiet : (place : Place) (bytes : List ℕ) (stamp : ℤ) → IsPlace place → ((h : List RatifiedCommit) → after_made h place bytes ≡ h)

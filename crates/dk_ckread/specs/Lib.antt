@@ -1,3 +1,4 @@
 pub mod ParquetExample
 pub mod ParquetFiles
 pub mod ParquetRows
+pub mod SidecarExample

@@ -1,17 +1,18 @@
 //! Laws of what is read of checkpoints, each without a premise on Parquet files. None of these functions does anything when it runs.
 
-ghost use Rattle.std.specs.Prelude.{pos};
+ghost use Rattle.std.specs.Prelude.{pos, true};
 ghost use Rattle.dk_ckread.specs.ParquetExample.{first_part, in_one_object, in_parts, parts_in_use, with_sidecar};
 ghost use Rattle.dk_ckread.specs.ParquetFiles.{add_file, head_file};
 ghost use Rattle.dk_ckread.specs.ParquetRows.{add_rows, head_rows};
-ghost use Rattle.dk_lawful.specs.CheckpointLaws.{CheckpointMeansOne, ReadPartsStand, ReadTopsStand};
+ghost use Rattle.dk_ckread.specs.SidecarExample.{other_sidecar, other_text, sidecar_gone};
+ghost use Rattle.dk_lawful.specs.CheckpointLaws.{CheckpointMeansOne, ReadCheckpointsStand};
 ghost use Rattle.dk_lawful.specs.ContentLaws.{ClassicMayBeMade, V2MayBeMade};
 ghost use Rattle.dk_lawful.specs.CheckpointSchema.{read_fields};
 ghost use Rattle.dk_lawful.specs.Example.{IsForbidden, example};
 ghost use Rattle.dk_lawful.specs.MoreExamples.{IsLawfulAfter};
 ghost use Rattle.dk_lawful.specs.Openable.{EachFromFloorIsKept};
 ghost use Rattle.dk_lawful.specs.SegmentLaws.{ReadAgrees};
-ghost use Rattle.dk_paths.specs.Places.{Part, place_path};
+ghost use Rattle.dk_paths.specs.Places.{Part, V2, place_path};
 ghost use Rattle.dk_pqmodel.specs.FileMeans.{FileMeans};
 ghost use Rattle.dk_store.specs.Told.{Made};
 
@@ -20,8 +21,7 @@ ghost use Rattle.dk_store.specs.Told.{Made};
 /// PROTOCOL.md, "Checkpoints").
 pub fn checkpoints_mean_one()
     ensures one { CheckpointMeansOne }
-    ensures read_parts { ReadPartsStand }
-    ensures read_tops { ReadTopsStand }
+    ensures read { ReadCheckpointsStand }
 {}
 
 /// Whatever a version of a lawful log is read from, a complete checkpoint or none and then commits and compacted files, leads to
@@ -45,12 +45,13 @@ pub fn example_files()
 {}
 
 /// Checkpoints of these files come lawfully after the example: in one object; in two parts, each with its share, after which the first
-/// commit may go; and in the form V2 with a sidecar that stands (Delta Lake's PROTOCOL.md, "Checkpoints").
+/// commit may go; and in the form V2 with a sidecar that stands, which goes after its checkpoint, below a newer one (Delta Lake's PROTOCOL.md, "Checkpoints").
 pub fn checkpoints_in_parquet_come()
     ensures in_one_object { IsLawfulAfter in_one_object }
     ensures in_parts { IsLawfulAfter in_parts }
     ensures parts_in_use { IsLawfulAfter parts_in_use }
     ensures with_sidecar { IsLawfulAfter with_sidecar }
+    ensures sidecar_gone { IsLawfulAfter sidecar_gone }
 {}
 
 /// On a lawful log each version of the history from the floor on can be opened, for every choice with the newest checkpoint: no
@@ -60,8 +61,10 @@ pub fn versions_stay_kept()
     ensures { EachFromFloorIsKept }
 {}
 
-/// Parts in Parquet that may not come: one that has another part's share, and one of a version that isn't published.
+/// Parts in Parquet that may not come: one that has another part's share, and one of a version that isn't published. And a
+/// checkpoint of the form V2 that would be whole, but that its sidecar has other rows than those of files.
 pub fn forbidden_parts()
     ensures other_share { IsForbidden (first_part example) (Made (place_path (Part 1 2 2)) head_file (pos 3)) }
     ensures beyond { IsForbidden example (Made (place_path (Part 2 1 2)) head_file (pos 3)) }
+    ensures other_rows { IsForbidden (other_sidecar example) (Made (place_path (V2 1 7 true)) other_text (pos 3)) }
 {}

@@ -8,6 +8,6 @@ mod limits;
 mod refusal;
 
 pub use engine::Engine;
-pub use handlers::JsonHandler;
+pub use handlers::{JsonHandler, ParquetHandler};
 pub use limits::{Limits, Which};
 pub use refusal::Refusal;

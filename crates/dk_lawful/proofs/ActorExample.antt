@@ -1,20 +1,31 @@
 -- Those at work on the example fit, and an id that comes twice is told apart.
-use Rattle.std.proofs.Common.{◌≡◌, ℕ, zero, suc, ℤ, pos, List, [], ◌∷◌, ◌++◌, Option, Some, None, codes, slice_get, refl, sym, ap, subst, ◌∙◌, arith, true≢false}
+use Rattle.std.proofs.Common.{◌≡◌, ℕ, zero, suc, ℤ, pos, ◌≤◌, length, take, List, [], ◌∷◌, ◌++◌, Option, Some, None, codes, slice_get, refl, sym, ap, subst, ◌∙◌, arith, true≢false}
 use Rattle.std.specs.Prelude.{Contains}
+use Rattle.uuid.specs.Text.{by_index}
 use Rattle.dk_model.specs.CommitText.{commit_of}
 use Rattle.dk_model.specs.InfoObject.{info_of}
 use Rattle.dk_paths.specs.Names.{commit_path}
-use Rattle.dk_paths.specs.Places.{Commit_at, Sidecar, sidecar_name}
+use Rattle.dk_model.specs.declared.action.Action.{Action}
+use Rattle.dk_model.specs.declared.state.TableState.{TableState}
+use Rattle.dk_model.specs.State.{fold}
+use Rattle.dk_paths.specs.Numbers.{id_text}
+use Rattle.dk_paths.specs.Places.{Commit_at, Sidecar, Staged, IsPlace, place_path, sidecar_name}
+use Rattle.dk_paths.proofs.PlaceLaws.{place_of_path}
 use Rattle.dk_lawful.specs.Present.{Holds}
-use Rattle.dk_lawful.specs.History.{RatifiedCommit, by_file, history, table_at}
+use Rattle.dk_lawful.specs.Agree.{Agree}
+use Rattle.dk_lawful.specs.Rules.{IsValidNext}
+use Rattle.dk_lawful.specs.ManagedExample.{founding_actions, founded}
+use Rattle.dk_lawful.specs.History.{RatifiedCommit, by_file, history, commits_of, commits_before, next_version, table_at}
 use Rattle.dk_lawful.specs.Permits.{AddsCommit}
 use Rattle.dk_lawful.specs.Lawful.{Lawful}
 use Rattle.dk_lawful.specs.Ids.{HasId, SaysId, StandsNowhere}
-use Rattle.dk_lawful.specs.Actors.{Snapshot, TransactionFits, JobFits, HasDrawn, HasDrawnSidecars, IsOpened, drawn}
+use Rattle.dk_lawful.specs.Actors.{Snapshot, OwnStaged, OwnFits, TransactionFits, JobFits, HasDrawn, HasDrawnSidecars, IsDrawn, IsOpened, drawn, commit_by}
 use Rattle.dk_lawful.specs.Example.{first_actions, second_actions, example}
-use Rattle.dk_lawful.specs.ActorExample.{opened, begun_there, job_there, at_work, BothFit, signed_text, signed_actions, signing, signing_again, SignedTwiceIsLawful, SignedTwiceIsNotOnce, AddsAgain, AddsOne}
+use Rattle.dk_lawful.specs.ActorExample.{opened, begun_there, job_there, at_work, BothFit, signed_text, signed_actions, signing, signing_again, SignedTwiceIsLawful, SignedTwiceIsNotOnce, AddsAgain, AddsOne, own_text, own_actions, own_staged, opened_managed, with_own, staging_actors, OwnIsLawful, OwnFitsThere}
 use Rattle.dk_lawful.proofs.OnTexts.{commits_on_literals, rules_on_literals}
-use Rattle.dk_lawful.proofs.Standing.{commit_place}
+use Rattle.dk_lawful.proofs.Standing.{commit_place, made_here, held_once}
+use Rattle.dk_lawful.proofs.CheckpointExample.{made, quiet}
+use Rattle.dk_lawful.proofs.ManagedExample.{only_founded, founded_is_lawful, founded_history}
 use Rattle.dk_lawful.proofs.SegmentsAgree.{agrees_itself}
 use Rattle.dk_lawful.proofs.SoundMade.{adds_itself}
 use Rattle.dk_lawful.proofs.StayFit.{begun_fits}
@@ -118,3 +129,84 @@ adds_again once = once.0 (by_file signed_actions, again_more, refl) 2 signed_has
 
 pub adds_one : AddsOne
 adds_one none = none.0 (by_file signed_actions, signed_more, refl)
+
+-- ---- a transaction with a staged commit of its own
+
+own_means : commit_of own_text ≡ Some own_actions
+unfolding commits_on_literals info_of own_text
+own_means = refl
+
+own_is : IsPlace (Staged 1 8)
+own_is = record { version_small = omega arith; id_small = omega arith }
+
+none_staged : (held : List ℕ) → Holds founded (Staged 1 8) held → ⊥
+none_staged held holds = let no : Commit_at 0 ≡ Staged 1 8 = only_founded (Staged 1 8) held holds in cc
+
+pub own_is_lawful : OwnIsLawful
+own_is_lawful horizon = made founded (Staged 1 8) own_text (pos 1) horizon (founded_is_lawful horizon) own_is none_staged (let long = ap length founded_history in let most : next_version founded ≤ 1 = omega (arith, long) in most)
+
+own_history : history own_staged ≡ by_file founding_actions ∷ []
+own_history = quiet founded (Staged 1 8) own_text (pos 1) own_is (λ h. refl) ∙ founded_history
+
+own_next : next_version own_staged ≡ 1
+own_next = ap length own_history
+
+-- what it commits at the moment after the one version, which may come next
+committed : commit_by with_own (founding_actions ∷ []) (pos 6) ≡ own_actions
+unfolding rules_on_literals id_text by_index
+committed = refl
+
+own_is_valid : IsValidNext (founding_actions ∷ []) own_actions
+unfolding rules_on_literals
+own_is_valid = refl
+
+own_before : commits_before own_staged 1 ≡ founding_actions ∷ []
+own_before = ap (λ h. take 1 (commits_of h)) own_history
+
+managed_nowhere : (id : List ℕ) → StandsNowhere own_staged id
+managed_nowhere id version (commit, is, says) = by version (ap (λ h. slice_get h version) (sym own_history) ∙ is)
+  where
+    by : (version : ℕ) → slice_get (by_file founding_actions ∷ []) version ≡ Some commit → ⊥
+    by zero is = let same : by_file founding_actions ≡ commit = cc in true≢false (sym (subst (SaysId id) (sym same) says))
+    by (suc version) is = none_is_some commit is
+
+own_fits : (own : OwnStaged) → ◌≡◌ {A = Option OwnStaged} (Some (record { version = 1; uuid = 8 })) (Some own) → OwnFits own_staged with_own own
+own_fits own is =
+    let same : record { version = 1; uuid = 8 } ≡ own = cc in
+    subst (OwnFits own_staged with_own) same (record {
+      below = (let next = own_next in omega (arith, next));
+      moment = pos 6;
+      valid = subst (λ (commits : List (List Action)). IsValidNext commits (commit_by with_own commits (pos 6))) (sym own_before) (subst (IsValidNext (founding_actions ∷ [])) (sym committed) own_is_valid);
+      means = λ bytes holds.
+          let here = held_once own_staged (Staged 1 8) bytes own_text holds (made_here founded (place_path (Staged 1 8)) own_text (pos 1) (Staged 1 8) (place_of_path (Staged 1 8) own_is)) in
+          ap commit_of here ∙ own_means ∙ ap Some (sym committed ∙ ap (λ (commits : List (List Action)). commit_by with_own commits (pos 6)) (sym own_before));
+    })
+
+managed_opened : (horizon : ℤ) (s : Snapshot) → ◌≡◌ {A = Option Snapshot} (Some opened_managed) (Some s) → IsOpened own_staged horizon s
+managed_opened horizon s is =
+    let same : opened_managed ≡ s = cc in
+    subst (IsOpened own_staged horizon) same (record {
+      known = (let next = own_next in omega (arith, next));
+      agrees = subst (λ (t : TableState). Agree (table_at founded 0) t horizon) (ap (λ h. fold (take 1 (commits_of h))) (founded_history ∙ sym own_history)) (agrees_itself (table_at founded 0) horizon);
+    })
+
+pub own_fits_there : OwnFitsThere
+own_fits_there horizon = record {
+  transactions = λ t among. subst (TransactionFits own_staged horizon) (sym (only_one with_own t among)) (record {
+    known = λ s is. (managed_opened horizon s is).known;
+    agrees = λ s is. (managed_opened horizon s is).agrees;
+    later = λ s is version has. absurd (managed_nowhere _ version has);
+    once = λ version other has has_other. absurd (managed_nowhere _ version has);
+    has_answered = λ version is. absurd (none_is_some version is);
+    staged = own_fits;
+  });
+  jobs = λ job among. absurd (omega (arith, among.1));
+  ids = λ t among. subst (HasDrawn staging_actors) (sym (only_one with_own t among)) (record { id = (0, (omega arith), refl); staged = drawn_second });
+  sidecar_ids = λ job among. absurd (omega (arith, among.1));
+  apart = λ place other t u is is_other same. first_of_one with_own t place is ∙ sym (first_of_one with_own u other is_other);
+  once = λ count small version other has. absurd (managed_nowhere _ version has);
+  unused = λ count least small version has. managed_nowhere _ version has;
+}
+  where
+    drawn_second : (own : OwnStaged) → ◌≡◌ {A = Option OwnStaged} (Some (record { version = 1; uuid = 8 })) (Some own) → IsDrawn staging_actors own.uuid
+    drawn_second own is = let same : record { version = 1; uuid = 8 } ≡ own = cc in subst (λ (o : OwnStaged). IsDrawn staging_actors o.uuid) same (1, (omega arith), refl)

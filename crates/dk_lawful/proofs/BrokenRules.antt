@@ -11,7 +11,7 @@ use Rattle.dk_lawful.specs.History.{by_file, history}
 use Rattle.dk_lawful.specs.Permits.{AddsCommit}
 use Rattle.dk_lawful.specs.Lawful.{Lawful}
 use Rattle.dk_lawful.specs.Example.{example, IsForbidden}
-use Rattle.dk_lawful.specs.BrokenRules.{informing_text, informing_actions, sidecar_text, sidecar_actions, applying_text, applying_actions, settling_text, settling_actions, appending_text, appending_actions, removing_text, removing_actions, appended}
+use Rattle.dk_lawful.specs.BrokenRules.{informing_text, informing_actions, sidecar_text, sidecar_actions, applying_text, applying_actions, settling_text, settling_actions, appending_text, appending_actions, removing_text, removing_actions, appended, vector_text, vector_actions, untimed_text, untimed_actions}
 use Rattle.dk_lawful.proofs.OnTexts.{commits_on_literals, rules_on_literals}
 use Rattle.dk_lawful.proofs.Example.{adds, permitted, may_add, broken, breaks, history_one}
 
@@ -84,3 +84,22 @@ unfolding rules_on_literals commits_on_literals
 rows_removed horizon may =
     broken appended (by_file appending_actions ∷ []) 1 7 removing_text removing_actions appended_history refl removing_means
     (may_add appended horizon 1 removing_text (pos 1) (omega arith) refl may)
+
+-- ---- rules on deletion vectors and on managed tables
+
+vector_means : commit_of vector_text ≡ Some vector_actions
+unfolding commits_on_literals vector_text
+vector_means = refl
+
+pub vector_added : IsForbidden example (Made (commit_path 2) vector_text (pos 2))
+unfolding rules_on_literals
+vector_added = breaks 11 vector_text vector_actions refl vector_means
+
+untimed_means : commit_of untimed_text ≡ Some untimed_actions
+unfolding commits_on_literals untimed_text
+untimed_means = refl
+
+pub untimed : IsForbidden [] (Made (commit_path 0) untimed_text (pos 0))
+unfolding rules_on_literals
+untimed horizon may =
+    broken [] [] 0 10 untimed_text untimed_actions refl refl untimed_means (may_add [] horizon 0 untimed_text (pos 0) (omega arith) refl may)

@@ -1,5 +1,5 @@
 -- Checkpoints come lawfully after the example, and what they make needless goes; and objects that are none may not come.
-use Rattle.std.proofs.Common.{◌≡◌, ℕ, ℤ, pos, ◌<◌, true, ◌⊎◌, inl, inr, take, length, List, [], ◌∷◌, ◌++◌, Some, codes, refl, sym, ap, subst, ◌∙◌, arith}
+use Rattle.std.proofs.Common.{◌≡◌, ℕ, ℤ, pos, ◌<◌, true, ◌⊎◌, inl, inr, take, length, List, [], ◌∷◌, ◌++◌, Some, None, codes, refl, sym, ap, subst, ◌∙◌, arith}
 use Rattle.std.specs.List.{filter_map}
 use Rattle.percent_encoding.specs.Percent.{percent_decode}
 use Rattle.dk_model.specs.declared.action.Action.{Action}
@@ -14,13 +14,14 @@ use Rattle.dk_paths.proofs.PlaceLaws.{place_of_path}
 use Rattle.dk_lawful.specs.Present.{Holds, Present, AtMostPublished}
 use Rattle.dk_lawful.specs.History.{RatifiedCommit, after_made, history, commits_of, table_at}
 use Rattle.dk_lawful.specs.Agree.{Agree}
-use Rattle.dk_lawful.specs.Checkpoints.{sidecar_of_path, with_name, sidecars_of, Top, HasTop, version_in, Among}
+use Rattle.dk_lawful.specs.Checkpoints.{sidecar_of_path, with_name, sidecars_of, Top, HasTop, marked_version, Among}
 use Rattle.dk_lawful.specs.Floor.{IsBelow}
 use Rattle.dk_lawful.specs.Permits.{MayMake, MayDelete, MakesTop}
 use Rattle.dk_lawful.specs.Lawful.{Lawful}
 use Rattle.dk_lawful.specs.Example.{first_text, first_actions, second_text, second_actions, example}
 use Rattle.dk_lawful.specs.MoreExamples.{IsLawfulAfter, compacting, side_name}
-use Rattle.dk_lawful.specs.CheckpointExample.{ClearedFloor, mark_text_0, mark_text_1, side_text, older_text, older_actions, whole_text, whole_actions, lacking_text, lacking_actions, naming_text, naming_actions, checkpointing, clearing}
+use Rattle.dk_lawful.specs.BrokenRules.{sidecar_text}
+use Rattle.dk_lawful.specs.CheckpointExample.{ClearedFloor, mark_text_0, mark_text_1, side_text, older_text, older_actions, whole_text, whole_actions, lacking_text, lacking_actions, naming_text, naming_actions, older_marked_text, older_marked_actions, unmarked_text, unmarked_actions, marked_twice_text, marked_twice_actions, misnaming_text, misnaming_actions, checkpointing, clearing}
 use Rattle.dk_lawful.proofs.SegmentsAgree.{agrees_itself}
 use Rattle.dk_lawful.proofs.OnTexts.{commits_on_literals}
 use Rattle.dk_lawful.proofs.OneMeaning.{one_value}
@@ -37,6 +38,26 @@ older_means = refl
 pub whole_means : commit_of whole_text ≡ Some whole_actions
 unfolding commits_on_literals checkpoint_meta_of mark_text_1 first_text second_text
 whole_means = refl
+
+pub older_marked_means : commit_of older_marked_text ≡ Some older_marked_actions
+unfolding commits_on_literals checkpoint_meta_of mark_text_1 first_text
+older_marked_means = refl
+
+pub unmarked_means : commit_of unmarked_text ≡ Some unmarked_actions
+unfolding commits_on_literals first_text second_text
+unmarked_means = refl
+
+pub marked_twice_means : commit_of marked_twice_text ≡ Some marked_twice_actions
+unfolding commits_on_literals checkpoint_meta_of mark_text_1 first_text second_text
+marked_twice_means = refl
+
+pub misnaming_means : commit_of misnaming_text ≡ Some misnaming_actions
+unfolding commits_on_literals checkpoint_meta_of sidecar_of mark_text_1 first_text second_text sidecar_text
+misnaming_means = refl
+
+pub misnamed : sidecars_of misnaming_actions ≡ None
+unfolding sidecar_of_path percent_decode commits_on_literals
+misnamed = refl
 
 pub lacking_means : commit_of lacking_text ≡ Some lacking_actions
 unfolding commits_on_literals checkpoint_meta_of mark_text_1 second_text
@@ -66,7 +87,7 @@ names_these bytes actions names top means named has =
 
 -- a checkpoint of this form that names no sidecar
 pub makes_json : (events : List Told) (version id : ℕ) (bytes : List ℕ) (actions : List Action) (horizon : ℤ) → AtMostPublished events version → commit_of bytes ≡ Some actions
-    → filter_map version_in actions ≡ version ∷ [] → sidecars_of actions ≡ Some [] → steps empty_state (actions ++ []) ≡ table_at events version
+    → filter_map marked_version actions ≡ version ∷ [] → sidecars_of actions ≡ Some [] → steps empty_state (actions ++ []) ≡ table_at events version
     → MakesTop events (V2 version id true) version bytes horizon
 makes_json events version id bytes actions horizon published means versions alone leads = record {
   published = published;

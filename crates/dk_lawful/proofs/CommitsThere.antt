@@ -21,15 +21,15 @@ second_some None other some = some
 second_some (Some place) other some = refl
 
 -- one of two places is preferred, where either is there
-prefers_first : (staged_first : Bool) (staged published : Option Place) → is_some staged ≡ true → is_some (preferred staged_first staged published) ≡ true
+pub prefers_first : (staged_first : Bool) (staged published : Option Place) → is_some staged ≡ true → is_some (preferred staged_first staged published) ≡ true
 prefers_first true staged published some = first_some staged published some
 prefers_first false staged published some = second_some published staged some
 
-prefers_second : (staged_first : Bool) (staged published : Option Place) → is_some published ≡ true → is_some (preferred staged_first staged published) ≡ true
+pub prefers_second : (staged_first : Bool) (staged published : Option Place) → is_some published ≡ true → is_some (preferred staged_first staged published) ≡ true
 prefers_second true staged published some = second_some staged published some
 prefers_second false staged published some = first_some published staged some
 
-present_some : (there : Bool) (place : Place) → there ≡ true → is_some (if there then Some place else None) ≡ true
+pub present_some : (there : Bool) (place : Place) → there ≡ true → is_some (if there then Some place else None) ≡ true
 present_some true place is = refl
 present_some false place is = absurd (true≢false (sym is))
 

@@ -17,8 +17,8 @@ use Rattle.dk_model.specs.State.{steps, empty_state}
 use Rattle.dk_model.specs.Texts.{ByText}
 use Rattle.dk_model.specs.WellKept.{IsWellKept}
 use Rattle.dk_lawful.specs.Agree.{Agree}
-use Rattle.dk_lawful.specs.Shares.{files_up_to, cut_of, files_of, has_path, SetsAllElse}
-use Rattle.dk_lawful.specs.Checkpoints.{sidecars_of, version_in, is_file_action}
+use Rattle.dk_lawful.specs.Shares.{files_up_to, share_of, files_of, has_file, SetsAllElse}
+use Rattle.dk_lawful.specs.Checkpoints.{sidecars_of, marked_version, is_file_action}
 use Rattle.dk_model.specs.Contents.{heads, live_file, is_later, removal, recorded, configured, adds, removals, named_actions, canonical_with}
 use Rattle.dk_lawful.specs.Contents.{has_v2, mark, v2_content}
 use Rattle.dk_lawful.specs.ContentLaws.{ClassicStands, PartHasShare, sidecars_content, V2Stands, V2SaysVersion, SidecarsHaveFiles, StandingComposes, ShareComposes}
@@ -27,12 +27,12 @@ use Rattle.dk_lawful.proofs.ContentsStand.{sets_files, sets_all_else, says_files
 use Rattle.dk_lawful.proofs.Joined.{IsApart, UpTo, first_part, more_parts, goes_up, whole_agrees, all_parts, none_in_drop, none_in_take}
 use Rattle.dk_lawful.proofs.WholeCheckpoints.{steps_more}
 
-cut_is_of : (state : TableState) (before parts : ℕ) → AreOf state.files (cut_of before parts (files_of state))
+cut_is_of : (state : TableState) (before parts : ℕ) → AreOf state.files (share_of before parts (files_of state))
 cut_is_of state before parts =
     drop_is_of state.files (files_up_to before parts (length (files_of state))) (take (files_up_to (suc before) parts (length (files_of state))) (files_of state))
     (take_is_of state.files (files_up_to (suc before) parts (length (files_of state))) (files_of state) (entries_are_of state.files))
 
-cut_among : (state : TableState) (before parts : ℕ) (path : List ℕ) → get state.files path ≡ None → has_path (cut_of before parts (files_of state)) path ≡ false
+cut_among : (state : TableState) (before parts : ℕ) (path : List ℕ) → get state.files path ≡ None → has_file (share_of before parts (files_of state)) path ≡ false
 cut_among state before parts path none =
     ap is_some (none_in_drop (files_up_to before parts (length (files_of state))) (take (files_up_to (suc before) parts (length (files_of state))) (files_of state)) path
     (none_in_take (files_up_to (suc before) parts (length (files_of state))) (files_of state) path (sym (get-entries state.files path) ∙ none)))
@@ -102,14 +102,14 @@ all_quiet state cut files =
 pub part_has_share : PartHasShare
 part_has_share state cut zero parts kept some most = absurd (omega arith)
 part_has_share state cut (suc zero) parts kept some most = (
-  sets_all_else (canonical_with state (is_later cut) (cut_of 0 parts (files_of state))) state (cut_of 0 parts (files_of state)) cut kept
-      (says_all_with state cut (cut_of 0 parts (files_of state)) kept (cut_is_of state 0 parts)),
-  all_quiet state cut (cut_of 0 parts (files_of state)),
+  sets_all_else (canonical_with state (is_later cut) (share_of 0 parts (files_of state))) state (share_of 0 parts (files_of state)) cut kept
+      (says_all_with state cut (share_of 0 parts (files_of state)) kept (cut_is_of state 0 parts)),
+  all_quiet state cut (share_of 0 parts (files_of state)),
 )
 part_has_share state cut (suc (suc before)) parts kept some most = (
-  sets_files (adds (cut_of (suc before) parts (files_of state))) state (cut_of (suc before) parts (files_of state)) (cut_among state (suc before) parts)
-      (says_files state cut (cut_of (suc before) parts (files_of state)) kept (cut_is_of state (suc before) parts)),
-  skips_all sidecars_of live_file (cut_of (suc before) parts (files_of state)) (λ e more. refl),
+  sets_files (adds (share_of (suc before) parts (files_of state))) state (share_of (suc before) parts (files_of state)) (cut_among state (suc before) parts)
+      (says_files state cut (share_of (suc before) parts (files_of state)) kept (cut_is_of state (suc before) parts)),
+  skips_all sidecars_of live_file (share_of (suc before) parts (files_of state)) (λ e more. refl),
 )
 
 -- ---- the form V2
@@ -127,17 +127,17 @@ module _ (state : TableState) (version : ℕ) (cut : ℤ) (kept : IsWellKept sta
   sidecars_upto : (before : ℕ) → suc before ≤ count
       → UpTo (steps empty_state (tops ++ sidecars_content state cut (suc before) count)) state (take (files_up_to (suc before) count (length (files_of state))) (files_of state)) cut
   sidecars_upto zero most =
-      first_part (tops ++ (adds (cut_of 0 count (files_of state)) ++ removals state (is_later cut))) state count cut
-      (sets_all_else (tops ++ (adds (cut_of 0 count (files_of state)) ++ removals state (is_later cut))) state (cut_of 0 count (files_of state)) cut kept
-      (says_first state cut (cut_of 0 count (files_of state)) kept (cut_is_of state 0 count) version references))
+      first_part (tops ++ (adds (share_of 0 count (files_of state)) ++ removals state (is_later cut))) state count cut
+      (sets_all_else (tops ++ (adds (share_of 0 count (files_of state)) ++ removals state (is_later cut))) state (share_of 0 count (files_of state)) cut kept
+      (says_first state cut (share_of 0 count (files_of state)) kept (cut_is_of state 0 count) version references))
   sidecars_upto (suc before) most =
-      let last = adds (cut_of (suc before) count (files_of state)) in
+      let last = adds (share_of (suc before) count (files_of state)) in
       subst (λ (s : TableState). UpTo s state (take (files_up_to (suc (suc before)) count (length (files_of state))) (files_of state)) cut)
       (sym (ap (steps empty_state) (sym (append_assoc tops (sidecars_content state cut (suc before) count) last)) ∙ steps_more empty_state (tops ++ sidecars_content state cut (suc before) count) last))
       (more_parts (steps empty_state (tops ++ sidecars_content state cut (suc before) count)) state last (files_up_to (suc before) count (length (files_of state)))
       (files_up_to (suc (suc before)) count (length (files_of state))) cut (goes_up (suc before) count (length (files_of state)) some) (well_kept_apart state kept)
-      (sets_files last state (cut_of (suc before) count (files_of state)) (cut_among state (suc before) count)
-      (says_files state cut (cut_of (suc before) count (files_of state)) kept (cut_is_of state (suc before) count)))
+      (sets_files last state (share_of (suc before) count (files_of state)) (cut_among state (suc before) count)
+      (says_files state cut (share_of (suc before) count (files_of state)) kept (cut_is_of state (suc before) count)))
       (sidecars_upto before (omega arith)))
 
 pub v2_stands : V2Stands
@@ -150,22 +150,22 @@ v2_stands state version cut (reference ∷ references) kept =
 pub v2_says_version : V2SaysVersion
 v2_says_version state version cut [] =
     ap (λ vs. version ∷ vs)
-    (skips_heads (filter_map version_in) state (adds (files_of state) ++ (removals state (is_later cut) ++ named_actions state)) (λ p more. refl) (λ m more. refl)
-    ∙ skips (filter_map version_in) live_file (files_of state) (removals state (is_later cut) ++ named_actions state) (λ e more. refl)
-    ∙ skips (filter_map version_in) removal (filter (is_later cut) (entries state.tombstones)) (named_actions state) (λ e more. refl)
-    ∙ skips_named_all (filter_map version_in) state (λ e more. refl) (λ e more. refl))
+    (skips_heads (filter_map marked_version) state (adds (files_of state) ++ (removals state (is_later cut) ++ named_actions state)) (λ p more. refl) (λ m more. refl)
+    ∙ skips (filter_map marked_version) live_file (files_of state) (removals state (is_later cut) ++ named_actions state) (λ e more. refl)
+    ∙ skips (filter_map marked_version) removal (filter (is_later cut) (entries state.tombstones)) (named_actions state) (λ e more. refl)
+    ∙ skips_named_all (filter_map marked_version) state (λ e more. refl) (λ e more. refl))
 v2_says_version state version cut (reference ∷ references) =
     ap (λ vs. version ∷ vs)
-    (skips_heads (filter_map version_in) state (named_actions state ++ map (λ r. action.Sidecar r) (reference ∷ references)) (λ p more. refl) (λ m more. refl)
-    ∙ skips_named (filter_map version_in) state (map (λ r. action.Sidecar r) (reference ∷ references)) (λ e more. refl) (λ e more. refl)
-    ∙ skips_all (filter_map version_in) (λ r. action.Sidecar r) (reference ∷ references) (λ r more. refl))
+    (skips_heads (filter_map marked_version) state (named_actions state ++ map (λ r. action.Sidecar r) (reference ∷ references)) (λ p more. refl) (λ m more. refl)
+    ∙ skips_named (filter_map marked_version) state (map (λ r. action.Sidecar r) (reference ∷ references)) (λ e more. refl) (λ e more. refl)
+    ∙ skips_all (filter_map marked_version) (λ r. action.Sidecar r) (reference ∷ references) (λ r more. refl))
 
 pub sidecars_have_files : SidecarsHaveFiles
 sidecars_have_files state cut zero count = refl
 sidecars_have_files state cut (suc zero) count =
-    skips (list_all is_file_action) live_file (cut_of 0 count (files_of state)) (removals state (is_later cut)) (λ e more. refl)
+    skips (list_all is_file_action) live_file (share_of 0 count (files_of state)) (removals state (is_later cut)) (λ e more. refl)
     ∙ skips_all (list_all is_file_action) removal (filter (is_later cut) (entries state.tombstones)) (λ e more. refl)
-sidecars_have_files state cut (suc (suc before)) count = skips_all (list_all is_file_action) live_file (cut_of (suc before) count (files_of state)) (λ e more. refl)
+sidecars_have_files state cut (suc (suc before)) count = skips_all (list_all is_file_action) live_file (share_of (suc before) count (files_of state)) (λ e more. refl)
 
 -- ---- what stands for a state stands for one that it agrees with
 
@@ -183,7 +183,7 @@ standing_composes actions state whole cut horizon greater above_cut above stands
 pub share_composes : ShareComposes
 share_composes actions state whole zero parts cut horizon greater above_cut above share agree = share
 share_composes actions state whole (suc zero) parts cut horizon greater above_cut above share agree = record {
-  sets = λ path. share.sets path ∙ ap (λ (m : ByText AddFile). if has_path (cut_of 0 parts (entries m)) path then get m path else None) agree.files;
+  sets = λ path. share.sets path ∙ ap (λ (m : ByText AddFile). if has_file (share_of 0 parts (entries m)) path then get m path else None) agree.files;
   protocol = share.protocol ∙ agree.protocol;
   metadata = share.metadata ∙ agree.metadata;
   applications = share.applications ∙ agree.applications;
@@ -193,9 +193,9 @@ share_composes actions state whole (suc zero) parts cut horizon greater above_cu
 }
 share_composes actions state whole (suc (suc before)) parts cut horizon greater above_cut above share agree = record {
   sets = λ any path. share.sets any path
-      ∙ ap (λ (m : ByText AddFile). if has_path (cut_of (suc before) parts (entries m)) path then get m path else get any.files path) agree.files;
+      ∙ ap (λ (m : ByText AddFile). if has_file (share_of (suc before) parts (entries m)) path then get m path else get any.files path) agree.files;
   takes = λ any path. share.takes any path
-      ∙ ap (λ (m : ByText AddFile). if has_path (cut_of (suc before) parts (entries m)) path then None else get any.tombstones path) agree.files;
+      ∙ ap (λ (m : ByText AddFile). if has_file (share_of (suc before) parts (entries m)) path then None else get any.tombstones path) agree.files;
   protocol = share.protocol;
   metadata = share.metadata;
   applications = share.applications;

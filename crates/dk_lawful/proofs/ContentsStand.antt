@@ -20,7 +20,7 @@ use Rattle.dk_model.specs.State.{steps, empty_state}
 use Rattle.dk_model.specs.WellKept.{IsWellKept}
 use Rattle.dk_model.proofs.Changes.{file_given, tombstone_given, domain_given, get-files-steps, get-tombstones-steps, get-applications-steps, get-domains-steps, protocol-steps, metadata-steps}
 use Rattle.dk_model.proofs.TextMaps.{text_order}
-use Rattle.dk_lawful.specs.Shares.{has_path, SetsFiles, SetsAllElse}
+use Rattle.dk_lawful.specs.Shares.{has_file, SetsFiles, SetsAllElse}
 use Rattle.dk_model.specs.Contents.{heads, live_file, is_later, removal, recorded, configured, adds, removals, named_actions, canonical_with}
 use Rattle.dk_lawful.specs.Contents.{mark}
 use Rattle.dk_lawful.proofs.Words.{AreOf, entries_are_of, filter_is_of, found_filtered, none_after, last_of_both, last_of_none, last_of_entries}
@@ -42,7 +42,7 @@ module _ (state : TableState) (kept : IsWellKept state) where
   all_make_live (e ∷ files) all path = (makes_live e all.0 path, all_make_live files all.1 path)
 
   adds_words : (files : List (List ℕ × AddFile)) → AreOf state.files files → (path : List ℕ)
-      → last_some (change_at path) (adds files) ≡ (if has_path files path then option_map live (get state.files path) else None)
+      → last_some (change_at path) (adds files) ≡ (if has_file files path then option_map live (get state.files path) else None)
   adds_words files all path = last_of_entries (change_at path) path live_file live state.files files all (all_make_live files all path)
 
 removes : (tombstones : List (List ℕ × ℤ)) (path : List ℕ) → AllByRecursion (λ e. change_at path (removal e) ≡ (if is_same_text path e.0 then Some (gone e.1) else None)) tombstones
@@ -114,7 +114,7 @@ heads_silent word no_protocol no_metadata state =
 
 -- the words of the files alone
 pub record SaysFiles (actions : List Action) (whole : TableState) (files : List (List ℕ × AddFile)) : Type 0 where
-  pub paths : (path : List ℕ) → last_some (change_at path) actions ≡ (if has_path files path then option_map live (get whole.files path) else None)
+  pub paths : (path : List ℕ) → last_some (change_at path) actions ≡ (if has_file files path then option_map live (get whole.files path) else None)
   pub protocol : last_some protocol_in actions ≡ None
   pub metadata : last_some metadata_in actions ≡ None
   pub applications : (path : List ℕ) → last_some (application_at path) actions ≡ None
@@ -123,7 +123,7 @@ pub record SaysFiles (actions : List Action) (whole : TableState) (files : List 
 -- the words of all else too
 pub record SaysAllElse (actions : List Action) (whole : TableState) (files : List (List ℕ × AddFile)) (cut : ℤ) : Type 0 where
   pub paths : (path : List ℕ) → last_some (change_at path) actions
-      ≡ option_or (if has_later whole cut path then option_map gone (get whole.tombstones path) else None) (if has_path files path then option_map live (get whole.files path) else None)
+      ≡ option_or (if has_later whole cut path then option_map gone (get whole.tombstones path) else None) (if has_file files path then option_map live (get whole.files path) else None)
   pub protocol : last_some protocol_in actions ≡ whole.protocol
   pub metadata : last_some metadata_in actions ≡ whole.metadata
   pub applications : (path : List ℕ) → last_some (application_at path) actions ≡ get whole.applications path
@@ -131,7 +131,7 @@ pub record SaysAllElse (actions : List Action) (whole : TableState) (files : Lis
 
 -- what is no file of the state is none of these files
 abbrev AreAmong : List (List ℕ × AddFile) → TableState → Type 0
-AreAmong files whole = (path : List ℕ) → get whole.files path ≡ None → has_path files path ≡ false
+AreAmong files whole = (path : List ℕ) → get whole.files path ≡ None → has_file files path ≡ false
 
 file_there : (has : Bool) (got old : Option AddFile) → (got ≡ None → has ≡ false) → file_given (if has then option_map live got else None) old ≡ (if has then got else old)
 file_there true None old among = absurd (let no : true ≡ false = among refl in cc)
@@ -147,9 +147,9 @@ tombstone_there false got old among = refl
 pub sets_files : (actions : List Action) (whole : TableState) (files : List (List ℕ × AddFile)) → AreAmong files whole → SaysFiles actions whole files → SetsFiles actions whole files
 sets_files actions whole files among words = record {
   sets = λ state path. get-files-steps actions state path ∙ ap (λ c. file_given c (get state.files path)) (words.paths path)
-      ∙ file_there (has_path files path) (get whole.files path) (get state.files path) (among path);
+      ∙ file_there (has_file files path) (get whole.files path) (get state.files path) (among path);
   takes = λ state path. get-tombstones-steps actions state path ∙ ap (λ c. tombstone_given c (get state.tombstones path)) (words.paths path)
-      ∙ tombstone_there (has_path files path) (get whole.files path) (get state.tombstones path) (among path);
+      ∙ tombstone_there (has_file files path) (get whole.files path) (get state.tombstones path) (among path);
   protocol = λ state. protocol-steps actions state ∙ ap (λ o. option_or o state.protocol) words.protocol;
   metadata = λ state. metadata-steps actions state ∙ ap (λ o. option_or o state.metadata) words.metadata;
   applications = λ state. same_map nat_list_cmp_total text_order (steps state actions).applications state.applications
@@ -202,7 +202,7 @@ pub sets_all_else : (actions : List Action) (whole : TableState) (files : List (
     → SaysAllElse actions whole files cut → SetsAllElse actions whole files cut
 sets_all_else actions whole files cut kept words = record {
   sets = λ path. get-files-steps actions empty_state path ∙ ap₂ file_given (words.paths path) (get-empty (slice_cmp nat_cmp) path)
-      ∙ file_else (has_path files path) (has_later whole cut path) (get whole.files path) (get whole.tombstones path) (kept.apart path);
+      ∙ file_else (has_file files path) (has_later whole cut path) (get whole.files path) (get whole.tombstones path) (kept.apart path);
   protocol = protocol-steps actions empty_state ∙ none_after (last_some protocol_in actions) ∙ words.protocol;
   metadata = metadata-steps actions empty_state ∙ none_after (last_some metadata_in actions) ∙ words.metadata;
   applications = same_map nat_list_cmp_total text_order (steps empty_state actions).applications whole.applications (λ path.
@@ -210,11 +210,11 @@ sets_all_else actions whole files cut kept words = record {
   domains = same_map nat_list_cmp_total text_order (steps empty_state actions).domains whole.domains (λ path.
       get-domains-steps actions empty_state path ∙ ap₂ domain_given (words.domains path) (get-empty (slice_cmp nat_cmp) path) ∙ given_back (get whole.domains path));
   none_more = λ path time is.
-      tombstone_only (has_path files path) (has_later whole cut path) (get whole.files path) (get whole.tombstones path) time
+      tombstone_only (has_file files path) (has_later whole cut path) (get whole.files path) (get whole.tombstones path) time
       (sym (get-tombstones-steps actions empty_state path ∙ ap₂ tombstone_given (words.paths path) (get-empty (slice_cmp nat_cmp) path)) ∙ is);
   unexpired = λ path time is above.
       get-tombstones-steps actions empty_state path ∙ ap₂ tombstone_given (words.paths path) (get-empty (slice_cmp nat_cmp) path)
-      ∙ ap₂ (λ (b : Bool) (t : Option ℤ). tombstone_given (option_or (if b then option_map gone t else None) (if has_path files path then option_map live (get whole.files path) else None)) None)
+      ∙ ap₂ (λ (b : Bool) (t : Option ℤ). tombstone_given (option_or (if b then option_map gone t else None) (if has_file files path then option_map live (get whole.files path) else None)) None)
       (later_there whole cut path time is above) is;
 }
   where
@@ -248,7 +248,7 @@ module _ (state : TableState) (cut : ℤ) (files : List (List ℕ × AddFile)) (
   }
 
   abbrev live_word : List ℕ → Option Change
-  live_word path = if has_path files path then option_map live (get state.files path) else None
+  live_word path = if has_file files path then option_map live (get state.files path) else None
 
   abbrev gone_word : List ℕ → Option Change
   gone_word path = if has_later state cut path then option_map gone (get state.tombstones path) else None

@@ -13,16 +13,16 @@ use Rattle.dk_paths.specs.Staged.{staged_name}
 use Rattle.dk_paths.proofs.PlaceLaws.{place_of_path}
 use Rattle.dk_lawful.specs.Present.{AtMostPublished, HasAbove, staged_bytes}
 use Rattle.dk_lawful.specs.History.{history, next_version}
-use Rattle.dk_lawful.specs.Checkpoints.{InParquet, version_in, Among, SidesMean}
+use Rattle.dk_lawful.specs.Checkpoints.{InParquet, sidecars_of, marked_version, Among, SidesMean}
 use Rattle.dk_lawful.specs.Permits.{Permits, MayMake, MayDelete, MayOver, MakesTop, MakesPart, Backfills}
 use Rattle.dk_lawful.specs.Example.{first_text, first_actions, second_text, second_actions, managed_text, example, staged_name_1, staging, ratifying, IsForbidden}
 use Rattle.dk_lawful.specs.MoreExamples.{side_name}
-use Rattle.dk_lawful.specs.CheckpointExample.{whole_text, whole_actions, lacking_text, lacking_actions, naming_text, naming_actions, checkpointing, naming}
+use Rattle.dk_lawful.specs.CheckpointExample.{whole_text, lacking_text, lacking_actions, naming_text, naming_actions, older_marked_text, older_marked_actions, unmarked_text, unmarked_actions, marked_twice_text, marked_twice_actions, misnaming_text, misnaming_actions, checkpointing, naming}
 use Rattle.dk_lawful.proofs.Standing.{commit_place, found_made, made_here, held_at, held_ratified, was_ratified}
 use Rattle.dk_lawful.proofs.Sound.{length_commits}
 use Rattle.dk_lawful.proofs.Example.{first_means, second_means, only_commits, staged, ratified}
 use Rattle.dk_lawful.proofs.MoreExamples.{at_place, example_commits, unpublished}
-use Rattle.dk_lawful.proofs.CheckpointExample.{whole_means, lacking_means, naming_means, names_side, has_these, names_these, whole_is, whole_commits, checkpointing_is_lawful}
+use Rattle.dk_lawful.proofs.CheckpointExample.{older_marked_means, unmarked_means, marked_twice_means, misnaming_means, misnamed, lacking_means, naming_means, names_side, has_these, names_these, whole_is, whole_commits, checkpointing_is_lawful}
 use Rattle.dk_lawful.proofs.Stays.{complete_is_published, none_beyond_last}
 
 side_is : IsPlace (Sidecar side_name)
@@ -37,16 +37,38 @@ checkpoint_beyond horizon may = unpublished 2 (omega arith) (top_at 2 7 whole_te
 
 -- the versions that the object says
 says : (version : ℕ) (bytes : List ℕ) (actions : List Action) (said : List ℕ) (horizon : ℤ) → IsPlace (V2 version 7 true) → commit_of bytes ≡ Some actions
-    → filter_map version_in actions ≡ said → Permits example (Made (place_path (V2 version 7 true)) bytes (pos 2)) horizon → said ≡ version ∷ []
+    → filter_map marked_version actions ≡ said → Permits example (Made (place_path (V2 version 7 true)) bytes (pos 2)) horizon → said ≡ version ∷ []
 says version bytes actions said horizon is means has may =
     let makes = top_at version 7 bytes horizon is may in
-    sym has ∙ ap (filter_map version_in) (sym (has_these bytes actions makes.top means makes.means.0)) ∙ makes.means.1
+    sym has ∙ ap (filter_map marked_version) (sym (has_these bytes actions makes.top means makes.means.0)) ∙ makes.means.1
 
-pub other_version : IsForbidden example (Made (place_path (V2 0 7 true)) whole_text (pos 2))
-other_version horizon may = differ (says 0 whole_text whole_actions (1 ∷ []) horizon ((omega arith), (omega arith)) whole_means refl may)
+pub other_version : IsForbidden example (Made (place_path (V2 0 7 true)) older_marked_text (pos 2))
+other_version horizon may = differ (says 0 older_marked_text older_marked_actions (1 ∷ []) horizon ((omega arith), (omega arith)) older_marked_means refl may)
   where
     differ : ◌≡◌ {A = List ℕ} (1 ∷ []) (0 ∷ []) → ⊥
     differ is = let same : ◌≡◌ {A = ℕ} 1 0 = cc in omega arith
+
+pub no_version : IsForbidden example (Made (place_path (V2 1 7 true)) unmarked_text (pos 2))
+no_version horizon may = differ (says 1 unmarked_text unmarked_actions [] horizon whole_is unmarked_means refl may)
+  where
+    differ : ◌≡◌ {A = List ℕ} [] (1 ∷ []) → ⊥
+    differ is = cc
+
+pub version_twice : IsForbidden example (Made (place_path (V2 1 7 true)) marked_twice_text (pos 2))
+version_twice horizon may = differ (says 1 marked_twice_text marked_twice_actions (1 ∷ 1 ∷ []) horizon whole_is marked_twice_means refl may)
+  where
+    differ : ◌≡◌ {A = List ℕ} (1 ∷ 1 ∷ []) (1 ∷ []) → ⊥
+    differ is = let lengths : ◌≡◌ {A = ℕ} 2 1 = ap length is in omega (arith, lengths)
+
+-- a path that is none of a sidecar
+pub no_sidecar_name : IsForbidden example (Made (place_path (V2 1 7 true)) misnaming_text (pos 2))
+no_sidecar_name horizon may =
+    let makes = top_at 1 7 misnaming_text horizon whole_is may in
+    let same = has_these misnaming_text misnaming_actions makes.top misnaming_means makes.means.0 in
+    none_is_some makes.top.sidecars (sym misnamed ∙ ap sidecars_of (sym same) ∙ makes.means.0.named)
+  where
+    none_is_some : (names : List (List ℕ)) → ◌≡◌ {A = Option (List (List ℕ))} None (Some names) → ⊥
+    none_is_some names is = cc
 
 pub does_other : IsForbidden example (Made (place_path (V2 1 7 true)) lacking_text (pos 2))
 does_other horizon may =
@@ -99,6 +121,9 @@ over_at place bytes stamp horizon is may = subst MayOver (place_of_path place is
 pub over_checkpoint : IsForbidden example (Over (place_path (V2 1 7 true)) whole_text (pos 2))
 over_checkpoint horizon may = over_at (V2 1 7 true) whole_text (pos 2) horizon whole_is may
 
+pub over_classic : IsForbidden example (Over (place_path (Classic 1)) whole_text (pos 2))
+over_classic horizon may = over_at (Classic 1) whole_text (pos 2) horizon (omega arith) may
+
 pub over_part : IsForbidden example (Over (place_path (Part 1 1 2)) whole_text (pos 2))
 over_part horizon may = over_at (Part 1 1 2) whole_text (pos 2) horizon ((omega arith), record { first = omega arith; last = omega arith; small = omega arith }) may
 
@@ -130,6 +155,9 @@ commit_of_checkpoint horizon may = none_above 1 (omega arith) (gone_at (checkpoi
 
 pub newest_checkpoint : IsForbidden (checkpointing example) (Deleted (place_path (V2 1 7 true)))
 newest_checkpoint horizon may = none_above 1 (omega arith) (gone_at (checkpointing example) (V2 1 7 true) horizon whole_is may)
+
+pub newest_classic : IsForbidden (checkpointing example) (Deleted (place_path (Classic 1)))
+newest_classic horizon may = none_above 1 (omega arith) (gone_at (checkpointing example) (Classic 1) horizon (omega arith) may)
 
 pub newest_part : IsForbidden (checkpointing example) (Deleted (place_path (Part 1 1 2)))
 newest_part horizon may =

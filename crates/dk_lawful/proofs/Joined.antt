@@ -16,7 +16,7 @@ use Rattle.dk_model.specs.State.{steps, steps_of_all, fold, empty_state}
 use Rattle.dk_model.proofs.Changes.{file_given, tombstone_given, get-files-steps, get-tombstones-steps}
 use Rattle.dk_model.proofs.TextMaps.{text_order}
 use Rattle.dk_lawful.specs.Agree.{Agree}
-use Rattle.dk_lawful.specs.Shares.{files_up_to, cut_of, files_of, has_path, SetsFiles, SetsAllElse}
+use Rattle.dk_lawful.specs.Shares.{files_up_to, share_of, files_of, has_file, SetsFiles, SetsAllElse}
 
 -- ---- no path has both a file and a tombstone
 
@@ -69,12 +69,12 @@ ends_at_all parts count some = mul-div_cancel_left count (omega arith)
 
 -- ---- which of the files have a path
 
-has_more : (xs ys : Files) (path : List ℕ) → has_path (xs ++ ys) path ≡ (has_path xs path || has_path ys path)
+has_more : (xs ys : Files) (path : List ℕ) → has_file (xs ++ ys) path ≡ (has_file xs path || has_file ys path)
 has_more [] ys path = refl
 has_more (x ∷ xs) ys path = by (eq_by_cmp (slice_cmp nat_cmp) path x.0) (has_more xs ys path)
   where
-    by : (same : Bool) → has_path (xs ++ ys) path ≡ (has_path xs path || has_path ys path)
-        → is_some (cond same (Some x.1) (find (slice_cmp nat_cmp) path (xs ++ ys))) ≡ (is_some (cond same (Some x.1) (find (slice_cmp nat_cmp) path xs)) || has_path ys path)
+    by : (same : Bool) → has_file (xs ++ ys) path ≡ (has_file xs path || has_file ys path)
+        → is_some (cond same (Some x.1) (find (slice_cmp nat_cmp) path (xs ++ ys))) ≡ (is_some (cond same (Some x.1) (find (slice_cmp nat_cmp) path xs)) || has_file ys path)
     by true rest = refl
     by false rest = rest
 
@@ -102,7 +102,7 @@ none_in_take (suc n) (x ∷ xs) path none = by (eq_by_cmp (slice_cmp nat_cmp) pa
 -- ---- the state after the first parts
 
 pub record UpTo (state whole : TableState) (files : Files) (horizon : ℤ) : Type 0 where
-  pub sets : (path : List ℕ) → get state.files path ≡ (if has_path files path then get whole.files path else None)
+  pub sets : (path : List ℕ) → get state.files path ≡ (if has_file files path then get whole.files path else None)
   pub protocol : state.protocol ≡ whole.protocol
   pub metadata : state.metadata ≡ whole.metadata
   pub applications : state.applications ≡ whole.applications
@@ -110,11 +110,11 @@ pub record UpTo (state whole : TableState) (files : Files) (horizon : ℤ) : Typ
   pub none_more : (path : List ℕ) (time : ℤ) → get state.tombstones path ≡ Some time → get whole.tombstones path ≡ Some time
   pub unexpired : (path : List ℕ) (time : ℤ) → get whole.tombstones path ≡ Some time → horizon <ℤ time → get state.tombstones path ≡ Some time
 
-pub first_part : (actions : List Action) (whole : TableState) (parts : ℕ) (horizon : ℤ) → SetsAllElse actions whole (cut_of 0 parts (files_of whole)) horizon
+pub first_part : (actions : List Action) (whole : TableState) (parts : ℕ) (horizon : ℤ) → SetsAllElse actions whole (share_of 0 parts (files_of whole)) horizon
     → UpTo (steps empty_state actions) whole (take (files_up_to 1 parts (length (files_of whole))) (files_of whole)) horizon
 first_part actions whole parts horizon share = record {
   sets = λ path. share.sets path
-      ∙ ap (λ n. if has_path (drop n (take (files_up_to 1 parts (length (files_of whole))) (files_of whole))) path then get whole.files path else None)
+      ∙ ap (λ n. if has_file (drop n (take (files_up_to 1 parts (length (files_of whole))) (files_of whole))) path then get whole.files path else None)
       (begins_at_0 parts (length (files_of whole)));
   protocol = share.protocol;
   metadata = share.metadata;
@@ -136,15 +136,15 @@ pub more_parts : (state whole : TableState) (actions : List Action) (low high : 
 more_parts state whole actions low high horizon most apart share upto = record {
   sets = λ path.
       share.sets state path
-      ∙ ap (λ o. if has_path (drop low (take high (files_of whole))) path then get whole.files path else o) (upto.sets path)
-      ∙ one_more (has_path (take low (files_of whole)) path) (has_path (drop low (take high (files_of whole))) path) (get whole.files path) None
+      ∙ ap (λ o. if has_file (drop low (take high (files_of whole))) path then get whole.files path else o) (upto.sets path)
+      ∙ one_more (has_file (take low (files_of whole)) path) (has_file (drop low (take high (files_of whole))) path) (get whole.files path) None
       ∙ ap (λ b. if b then get whole.files path else None) (sym (has_more (take low (files_of whole)) (drop low (take high (files_of whole))) path))
-      ∙ ap (λ files. if has_path files path then get whole.files path else None) (sym (take_more low high (files_of whole) most));
+      ∙ ap (λ files. if has_file files path then get whole.files path else None) (sym (take_more low high (files_of whole) most));
   protocol = share.protocol state ∙ upto.protocol;
   metadata = share.metadata state ∙ upto.metadata;
   applications = share.applications state ∙ upto.applications;
   domains = share.domains state ∙ upto.domains;
-  none_more = λ path time is. upto.none_more path time (stood (has_path (drop low (take high (files_of whole))) path) (get state.tombstones path) time (sym (share.takes state path) ∙ is));
+  none_more = λ path time is. upto.none_more path time (stood (has_file (drop low (take high (files_of whole))) path) (get state.tombstones path) time (sym (share.takes state path) ∙ is));
   unexpired = λ path time is above.
       share.takes state path
       ∙ ap (λ found. if is_some found then None else get state.tombstones path)

@@ -1,4 +1,5 @@
 pub mod ActorExample
+pub mod BacklogExample
 pub mod BrokenRules
 pub mod Calls
 pub mod CheckpointExample
@@ -14,6 +15,7 @@ pub mod Heads
 pub mod IdsOnce
 pub mod Joined
 pub mod Joining
+pub mod KeptVersions
 pub mod Lists
 pub mod ManagedExample
 pub mod Management

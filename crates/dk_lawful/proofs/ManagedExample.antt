@@ -19,7 +19,7 @@ use Rattle.dk_lawful.specs.Permits.{MayMake, MayDelete, AddsCommit, RatifiesComm
 use Rattle.dk_lawful.specs.Lawful.{Lawful}
 use Rattle.dk_lawful.specs.Example.{IsForbidden}
 use Rattle.dk_lawful.specs.CheckpointExample.{mark_text_1}
-use Rattle.dk_lawful.specs.ManagedExample.{founding_text, founding_actions, adding_text, adding_actions, late_text, late_actions, founded, staged_once, staged_twice, catalogued, published, forgotten, dropped, checkpoint_text, checkpoint_actions, ManagedIsLawful, ManagedHistory}
+use Rattle.dk_lawful.specs.ManagedExample.{founding_text, founding_actions, adding_text, adding_actions, late_text, late_actions, founded, staged_once, staged_twice, staged_ahead, staged_unreadable, catalogued, published, forgotten, dropped, checkpoint_text, checkpoint_actions, ManagedIsLawful, ManagedHistory}
 use Rattle.dk_lawful.proofs.OnTexts.{commits_on_literals, rules_on_literals}
 use Rattle.dk_lawful.proofs.Standing.{text_refl, commit_place, found_made, kept_made, made_here, held_at, held_once, held_ratified, was_ratified, held_forgotten, was_forgotten, found_deleted, kept_deleted}
 use Rattle.dk_lawful.proofs.Example.{broken_after, adds, permitted, history_one}
@@ -57,13 +57,19 @@ is_7 = staged_is 7 (omega arith)
 is_8 : IsPlace (Staged 1 8)
 is_8 = staged_is 8 (omega arith)
 
+is_6 : IsPlace (Staged 1 6)
+is_6 = staged_is 6 (omega arith)
+
+pub is_5 : IsPlace (Staged 2 5)
+is_5 = record { version_small = omega arith; id_small = omega arith }
+
 top_is : IsPlace (V2 1 9 true)
 top_is = ((omega arith), (omega arith))
 
 abbrev pub IsFirst : Place → Type 0
 IsFirst place = Commit_at 0 ≡ place
 
-only_founded : OnlyAt founded IsFirst
+pub only_founded : OnlyAt founded IsFirst
 only_founded place held holds = elim (found_made [] (commit_path 0) founding_text (pos 0) place held holds) [
   | inl (at, is) ↦ sym (commit_place 0 (omega arith)) ∙ at
   | inr none ↦ absurd (let no : ◌≡◌ {A = Option (List ℕ)} None (Some held) = none.has_bytes in cc)
@@ -75,7 +81,7 @@ only_once = also_at founded IsFirst (Staged 1 7) adding_text (pos 1) is_7 only_f
 only_twice : OnlyAt staged_twice (λ place. (Staged 1 8 ≡ place) ⊎ ((Staged 1 7 ≡ place) ⊎ IsFirst place))
 only_twice = also_at staged_once (λ place. (Staged 1 7 ≡ place) ⊎ IsFirst place) (Staged 1 8) late_text (pos 2) is_8 only_once
 
-only_catalogued : OnlyAt catalogued (λ place. (Staged 1 8 ≡ place) ⊎ ((Staged 1 7 ≡ place) ⊎ IsFirst place))
+pub only_catalogued : OnlyAt catalogued (λ place. (Staged 1 8 ≡ place) ⊎ ((Staged 1 7 ≡ place) ⊎ IsFirst place))
 only_catalogued place held holds = only_twice place held (was_ratified staged_twice 1 (staged_name 1 7) place held holds)
 
 only_published : OnlyAt published (λ place. (Commit_at 1 ≡ place) ⊎ ((Staged 1 8 ≡ place) ⊎ ((Staged 1 7 ≡ place) ⊎ IsFirst place)))
@@ -107,7 +113,7 @@ unpublished version past (held, holds) = elim (only_catalogued (Commit_at versio
 
 -- ---- the histories
 
-founded_history : history founded ≡ by_file founding_actions ∷ []
+pub founded_history : history founded ≡ by_file founding_actions ∷ []
 founded_history = history_one founding_text founding_actions founding_means
 
 once_history : history staged_once ≡ by_file founding_actions ∷ []
@@ -122,7 +128,7 @@ is_managed_then = refl
 
 -- ---- the staged commits that stand
 
-staged_7 : Holds staged_twice (Staged 1 7) adding_text
+pub staged_7 : Holds staged_twice (Staged 1 7) adding_text
 staged_7 =
     kept_made staged_once (place_path (Staged 1 8)) late_text (pos 2) (Staged 1 7) adding_text (free_at staged_once (Staged 1 8) is_8 none_at_8)
     (made_here founded (place_path (Staged 1 7)) adding_text (pos 1) (Staged 1 7) (place_of_path (Staged 1 7) is_7))
@@ -152,7 +158,7 @@ founding_adds : AddsCommit [] 0 founding_text
 unfolding rules_on_literals
 founding_adds = adds [] [] 0 founding_text founding_actions refl refl refl refl founding_means
 
-founded_is_lawful : (horizon : ℤ) → Lawful founded horizon
+pub founded_is_lawful : (horizon : ℤ) → Lawful founded horizon
 founded_is_lawful horizon = (permitted [] horizon 0 founding_text (pos 0) (omega arith) tt founding_adds, tt)
 
 once_is_lawful : (horizon : ℤ) → Lawful staged_once horizon
@@ -163,10 +169,10 @@ twice_is_lawful : (horizon : ℤ) → Lawful staged_twice horizon
 twice_is_lawful horizon =
     made staged_once (Staged 1 8) late_text (pos 2) horizon (once_is_lawful horizon) is_8 none_at_8 (let long = ap length once_history in let most : next_version staged_once ≤ 1 = omega (arith, long) in most)
 
-catalogued_is_lawful : (horizon : ℤ) → Lawful catalogued horizon
+pub catalogued_is_lawful : (horizon : ℤ) → Lawful catalogued horizon
 catalogued_is_lawful horizon = (adding_ratifies, twice_is_lawful horizon)
 
-first_stands : Present catalogued (Commit_at 0)
+pub first_stands : Present catalogued (Commit_at 0)
 first_stands = (
   founding_text,
   held_ratified staged_twice 1 (staged_name 1 7) (Commit_at 0) founding_text
@@ -218,7 +224,7 @@ dropped_is_lawful horizon =
 
 -- ---- its history, and the checkpoint
 
-catalogued_history : history catalogued ≡ by_file founding_actions ∷ by_catalogue adding_actions ∷ []
+pub catalogued_history : history catalogued ≡ by_file founding_actions ∷ by_catalogue adding_actions ∷ []
 unfolding adding_ratifies ratifies
 catalogued_history = ratifies_itself staged_twice 1 (staged_name 1 7) adding_ratifies ∙ ap (λ h. h ++ by_catalogue adding_actions ∷ []) twice_history
 
@@ -300,9 +306,29 @@ other_name horizon may =
     first_byte : (byte other : ℕ) (bytes others : List ℕ) → byte ∷ bytes ≡ other ∷ others → byte ≡ other
     first_byte byte other bytes others is = cc
 
--- one of a version that isn't the next one
-pub not_next : IsForbidden staged_twice (Ratified 2 (staged_name 2 7))
-not_next horizon may = let next = may.next in let long = ap length twice_history in omega (arith, next, long)
+-- one of a version that isn't the next one, though its staged commit stands
+ahead_history : history staged_ahead ≡ by_file founding_actions ∷ []
+ahead_history = quiet staged_twice (Staged 2 5) adding_text (pos 3) is_5 (λ h. refl) ∙ twice_history
+
+pub not_next : IsForbidden staged_ahead (Ratified 2 (staged_name 2 5))
+not_next horizon may = let next = may.next in let long = ap length ahead_history in omega (arith, next, long)
+
+-- one whose staged commit is absent, and one whose text means nothing
+pub staged_absent : IsForbidden founded (Ratified 1 (staged_name 1 7))
+staged_absent horizon may = let no : Commit_at 0 ≡ Staged 1 may.id = only_founded (Staged 1 may.id) may.bytes may.staged in cc
+
+unreadable_text : commit_of (codes "{") ≡ None
+unfolding commits_on_literals
+unreadable_text = refl
+
+pub staged_means_nothing : IsForbidden staged_unreadable (Ratified 1 (staged_name 1 6))
+staged_means_nothing horizon may = elim (also_at founded IsFirst (Staged 1 6) (codes "{") (pos 1) is_6 only_founded (Staged 1 may.id) may.bytes may.staged) [
+  | inl is ↦
+      let here : Holds staged_unreadable (Staged 1 6) (codes "{") = made_here founded (place_path (Staged 1 6)) (codes "{") (pos 1) (Staged 1 6) (place_of_path (Staged 1 6) is_6) in
+      let bytes : may.bytes ≡ codes "{" = held_once staged_unreadable (Staged 1 6) may.bytes (codes "{") (subst (λ place. Holds staged_unreadable place may.bytes) (sym is) may.staged) here in
+      let no : ◌≡◌ {A = Option (List Action)} None (Some may.actions) = sym unreadable_text ∙ ap commit_of (sym bytes) ∙ may.means in cc
+  | inr is ↦ let no : Commit_at 0 ≡ Staged 1 may.id = is in cc
+]
 
 -- a backfill with other bytes than those that were ratified
 bytes_apart : adding_text ≡ late_text → ⊥

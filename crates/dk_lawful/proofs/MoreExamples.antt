@@ -2,6 +2,7 @@
 use Rattle.std.proofs.Common.{◌≡◌, ℕ, ℤ, pos, ◌≤◌, take, drop, List, [], ◌∷◌, ◌++◌, Option, Some, None, codes, refl, sym, ap, subst, ◌∙◌, arith, true≢false, inl, inr}
 use Rattle.std.specs.Prelude.{IsNone}
 use Rattle.dk_model.specs.declared.state.TableState.{TableState}
+use Rattle.dk_model.specs.declared.action.Action.{Action}
 use Rattle.dk_model.specs.declared.action.Protocol.{Protocol}
 use Rattle.dk_model.specs.CommitText.{commit_of}
 use Rattle.dk_model.specs.State.{steps, steps_of_all, empty_state}
@@ -144,6 +145,18 @@ wrong_sum horizon may =
   where
     none_is_some : (p : Protocol) → ◌≡◌ {A = Option Protocol} None (Some p) → ⊥
     none_is_some p is = cc
+
+unreadable_text : commit_of (codes "{") ≡ None
+unfolding commits_on_literals
+unreadable_text = refl
+
+pub unreadable_sum : IsForbidden example (Made (place_path (Compacted 0 1)) (codes "{") (pos 2))
+unreadable_sum horizon may =
+    let compacts : Compacts example 0 1 (codes "{") = at_place (Compacted 0 1) (codes "{") (pos 2) horizon ((omega arith), (omega arith)) may in
+    none_is_some compacts.actions (sym unreadable_text ∙ compacts.means)
+  where
+    none_is_some : (actions : List Action) → ◌≡◌ {A = Option (List Action)} None (Some actions) → ⊥
+    none_is_some actions is = cc
 
 pub sum_beyond : IsForbidden example (Made (place_path (Compacted 1 2)) second_text (pos 2))
 sum_beyond horizon may =

@@ -1,13 +1,16 @@
 -- Where a Parquet file means at most one list of rows, each object of a checkpoint means at most one thing.
-use Rattle.std.proofs.Common.{◌≡◌, ℕ, zero, suc, Bool, true, false, List, [], ◌∷◌, ◌++◌, Option, Some, sym, ap, ap₂, subst, ◌∙◌}
+use Rattle.std.proofs.Common.{◌≡◌, ℕ, Bool, true, false, List, [], ◌∷◌, ◌++◌, Option, Some, sym, ap, ap₂, subst, ◌∙◌}
 use Rattle.dk_pqmodel.specs.FileMeans.{MeansOneList}
 use Rattle.dk_model.specs.declared.action.Action.{Action}
 use Rattle.dk_model.specs.CommitText.{commit_of}
 use Rattle.dk_store.specs.Told.{Told}
+use Rattle.dk_store.specs.Objects.{content}
 use Rattle.dk_paths.specs.Places.{Place, Commit_at, Classic, Part, V2, Compacted, Hint, Sidecar, Staged, Other}
+use Rattle.dk_lawful.specs.declared.segment.CheckpointRef.{CheckpointRef}
+use Rattle.dk_lawful.specs.declared.segment.CheckpointRef.TheVariants as refs
 use Rattle.dk_lawful.specs.CheckpointSchema.{read_fields}
 use Rattle.dk_lawful.specs.CheckpointRows.{actions_of_rows}
-use Rattle.dk_lawful.specs.Checkpoints.{InParquet, HasActions, sidecars_of, Top, HasTop, TopMeans, SidesMean, ObjectMeans, PartsMean, ObjectsMean, Checkpoint, in_one, in_parts}
+use Rattle.dk_lawful.specs.Checkpoints.{InParquet, HasActions, sidecars_of, Top, HasTop, HasV2Top, TopMeans, SidesMean, ObjectMeans, PartsMean, ObjectsMean}
 use Rattle.dk_lawful.specs.CheckpointLaws.{CheckpointMeansOne}
 use Rattle.dk_lawful.proofs.Standing.{held_once}
 
@@ -43,25 +46,28 @@ module _ (one : MeansOneList) where
   top_means (Other path) bytes top other means means_other = absurd means
 
   module _ (events : List Told) where
-    object_means : (place : Place) (top other : Top) → ObjectMeans events place top → ObjectMeans events place other → top ≡ other
-    object_means place top other (bytes, holds, means) (bytes', holds', means') =
-        top_means place bytes' top other (subst (λ b. TopMeans place b top) (held_once events place bytes bytes' holds holds') means) means'
+    object_means : (reads : List ℕ → Top → Type 0) → ((bytes : List ℕ) (top other : Top) → reads bytes top → reads bytes other → top ≡ other)
+        → (path : List ℕ) (top other : Top) → ObjectMeans events reads path top → ObjectMeans events reads path other → top ≡ other
+    object_means reads once path top other (bytes, has, means) (bytes', has', means') =
+        once bytes' top other (subst (λ b. reads b top) (one_value (content events path) bytes bytes' has has') means) means'
 
-    parts_mean : (version parts before : ℕ) (top other : Top) → PartsMean events version parts before top → PartsMean events version parts before other → top ≡ other
-    parts_mean version parts zero top other means means_other =
+    parts_mean : (paths : List (List ℕ)) (top other : Top) → PartsMean events paths top → PartsMean events paths other → top ≡ other
+    parts_mean [] top other means means_other =
         let same : top.actions ≡ other.actions = means.0 ∙ sym means_other.0 in
         let sides : top.sidecars ≡ other.sidecars = means.1 ∙ sym means_other.1 in
         λ i. record { actions = same i; sidecars = sides i }
-    parts_mean version parts (suc before) top other (front, own, fronts, owns, all, names) (front', own', fronts', owns', all', names') =
-        let same_front : front ≡ front' = parts_mean version parts before front front' fronts fronts' in
-        let same_own : own ≡ own' = object_means (Part version (suc before) parts) own own' owns owns' in
-        let same : top.actions ≡ other.actions = all ∙ ap₂ (λ (t u : Top). t.actions ++ u.actions) same_front same_own ∙ sym all' in
-        let sides : top.sidecars ≡ other.sidecars = names ∙ ap₂ (λ (t u : Top). t.sidecars ++ u.sidecars) same_front same_own ∙ sym names' in
+    parts_mean (path ∷ paths) top other (own, rest, owns, rests, all, names) (own', rest', owns', rests', all', names') =
+        let same_own : own ≡ own' = object_means (HasTop false) (top_in false) path own own' owns owns' in
+        let same_rest : rest ≡ rest' = parts_mean paths rest rest' rests rests' in
+        let same : top.actions ≡ other.actions = all ∙ ap₂ (λ (t u : Top). t.actions ++ u.actions) same_own same_rest ∙ sym all' in
+        let sides : top.sidecars ≡ other.sidecars = names ∙ ap₂ (λ (t u : Top). t.sidecars ++ u.sidecars) same_own same_rest ∙ sym names' in
         λ i. record { actions = same i; sidecars = sides i }
 
-    objects_mean : (checkpoint : Checkpoint) (top other : Top) → ObjectsMean events checkpoint top → ObjectsMean events checkpoint other → top ≡ other
-    objects_mean (in_one place) top other means means_other = object_means place top other means means_other
-    objects_mean (in_parts version parts) top other means means_other = parts_mean version parts parts top other means means_other
+    pub objects_mean : (checkpoint : CheckpointRef) (top other : Top) → ObjectsMean events checkpoint top → ObjectsMean events checkpoint other → top ≡ other
+    objects_mean (refs.Classic version path) top other means means_other = object_means (HasTop false) (top_in false) path top other means means_other
+    objects_mean (refs.Parts version parts paths) top other means means_other = parts_mean paths top other means means_other
+    objects_mean (refs.V2 version path json) top other means means_other =
+        object_means (HasV2Top version json) (λ bytes t u has has_other. top_in json bytes t u has.0 has_other.0) path top other means means_other
 
     sides_mean : (names : List (List ℕ)) (actions others : List Action) → SidesMean events names actions → SidesMean events names others → actions ≡ others
     sides_mean [] actions others means means_other = means ∙ sym means_other

@@ -1,31 +1,26 @@
 -- On a lawful log each version from the floor on is kept, and what a cleanup does to the floor.
-use Rattle.std.proofs.Common.{◌≡◌, ℕ, zero, suc, ℤ, ◌+◌, ◌<◌, ◌≤◌, max, ◌⊎◌, inl, inr, Bool, true, false, ◌&&◌, nat_le, List, [], ◌∷◌, ◌++◌, Option, Some, None, option_map, option_and_then, if◌then◌else◌, refl, sym, ap, ap₂, subst, ◌∙◌, arith, true≢false, filter_map}
+use Rattle.std.proofs.Common.{◌≡◌, ℕ, zero, suc, ◌+◌, ◌<◌, ◌≤◌, max, ◌⊎◌, inl, inr, Bool, true, false, ◌&&◌, nat_le, List, [], ◌∷◌, ◌++◌, Option, Some, None, option_map, option_and_then, if◌then◌else◌, refl, sym, ap, ap₂, subst, ◌∙◌, arith, true≢false, filter_map}
 use Rattle.std.specs.Prelude.{◌==◌, is_some, nat_lt, filter}
 use Rattle.std.specs.List.{cons_option}
 use Rattle.std.specs.Option.{option_or}
 use Rattle.std.proofs.lemmas.Bool.{and_parts, eqb-true, eq-eqb, le-leb, cases_lt, ltb-false, ltb-true}
 use Rattle.dk_store.specs.Told.{Told, Made, Over, Deleted, Ratified, Forgotten}
-use Rattle.dk_store.specs.Standings.{standing}
 use Rattle.dk_paths.specs.Names.{commit_path}
 use Rattle.dk_paths.specs.Places.{Place, Commit_at, Classic, Part, V2, Compacted, Hint, Sidecar, Staged, Other, IsPlace, place_of, place_path}
-use Rattle.dk_pqmodel.specs.FileMeans.{MeansOneList}
 use Rattle.dk_lawful.specs.declared.segment.Checkpoints.{Checkpoints}
 use Rattle.dk_lawful.specs.declared.segment.Checkpoints.TheVariants.{No, Newest}
 use Rattle.dk_lawful.specs.declared.segment.Segment.{Segment}
 use Rattle.dk_lawful.specs.declared.segment.Step.{Step}
 use Rattle.dk_lawful.specs.declared.segment.Step.TheVariants.{Commit}
-use Rattle.dk_lawful.specs.Present.{Available, Complete}
-use Rattle.dk_lawful.specs.Lawful.{Lawful}
+use Rattle.dk_lawful.specs.Present.{Complete}
 use Rattle.dk_lawful.specs.Floor.{IsBelow}
-use Rattle.dk_lawful.specs.Checkpoints.{Top, Among, Checkpoint, in_one, in_parts}
-use Rattle.dk_lawful.specs.Segments.{is_among, commit_place, before_later, steps_from, gap_from, greater, greatest, lesser, least, has_parts, complete_at, is_allowed, parts_at, id_at, by_parts, checkpoint_at, base_of, reached_by, furthest, compacted_step, commit_step, step_at, after_step, before_next, walked_to, or_next, gap_to, version_of, begins_at, steps_of, segment_after}
-use Rattle.dk_lawful.specs.Openable.{standing_places, HasSidecars, EachFromFloorIsKept, PlainIsByCommits, GoesBelow, CleansBelow, CleanupLeavesFloor, IsNeedless, OthersLeaveFloor}
-use Rattle.dk_lawful.proofs.CommitsThere.{available_there}
-use Rattle.dk_lawful.proofs.OneMeaning.{top_means}
+use Rattle.dk_lawful.specs.declared.segment.CheckpointRef.{CheckpointRef}
+use Rattle.dk_lawful.specs.Segments.{is_among, commit_place, before_later, steps_from, gap_from, greater, greatest, lesser, least, has_parts, complete_at, is_allowed, parts_at, id_at, classic_ref, parts_ref, v2_ref, by_parts, checkpoint_at, base_of, reached_by, furthest, compacted_step, commit_step, step_at, after_step, before_next, walked_to, or_next, gap_to, version_of, begins_at, steps_of, segment_after}
+use Rattle.dk_lawful.specs.Openable.{standing_places, PlainIsByCommits, GoesBelow, CleansBelow, CleanupLeavesFloor, IsNeedless, OthersLeaveFloor}
 use Rattle.dk_lawful.proofs.SoundDeleted.{IsApart, Complete_deleted}
-use Rattle.dk_lawful.proofs.SoundOthers.{Complete_same, forgotten_same, lawful_is_sound}
-use Rattle.dk_lawful.proofs.StandingPlaces.{In, in_is_among, in_filter, of_filter, present_is_in, in_is_place}
-use Rattle.dk_lawful.proofs.Stays.{kept_from_floor, sidecars_stay, floor_is_upward}
+use Rattle.dk_lawful.proofs.SoundOthers.{Complete_same, forgotten_same}
+use Rattle.dk_lawful.proofs.StandingPlaces.{In, in_is_among, in_filter, of_filter, present_is_in}
+use Rattle.dk_lawful.proofs.Stays.{floor_is_upward}
 
 -- ---- elements by a function
 
@@ -103,7 +98,7 @@ if_true : {X : Type 0} (b : Bool) (x : X) → b ≡ true → (if b then Some x e
 if_true true x is = refl
 if_true false x is = absurd (true≢false (sym is))
 
-of_if : {X : Type 0} (b : Bool) (x y : X) → (if b then Some x else None) ≡ Some y → (b ≡ true) × (x ≡ y)
+pub of_if : {X : Type 0} (b : Bool) (x y : X) → (if b then Some x else None) ≡ Some y → (b ≡ true) × (x ≡ y)
 of_if true x y is = (refl, cc)
 of_if false x y is = absurd (let no : ◌≡◌ {A = Option _} None (Some y) = is in cc)
 
@@ -125,20 +120,20 @@ module _ (places : List Place) where
   first_id version = least (filter_map (id_at version) places)
 
   -- a complete checkpoint that begins at a listed place is chosen at its version, or another of this version is
-  chosen_at : (place : Place) (version : ℕ) → In places place → complete_at present place ≡ Some version → (checkpoint : Checkpoint) × (checkpoint_at places version ≡ Some checkpoint)
+  chosen_at : (place : Place) (version : ℕ) → In places place → complete_at present place ≡ Some version → (checkpoint : CheckpointRef) × (checkpoint_at places version ≡ Some checkpoint)
   chosen_at place version at is = by_classic (present (Classic version)) refl (by_place place at is)
     where
-      some_parts : (parts id : Option ℕ) → is_some parts ≡ true → (checkpoint : Checkpoint) × (by_parts present version parts id ≡ Some checkpoint)
+      some_parts : (parts id : Option ℕ) → is_some parts ≡ true → (checkpoint : CheckpointRef) × (by_parts present version parts id ≡ Some checkpoint)
       some_parts None id some = absurd (true≢false (sym some))
-      some_parts (Some parts) id some = (in_parts version parts, refl)
+      some_parts (Some parts) id some = (parts_ref version parts, refl)
 
-      some_id : (parts id : Option ℕ) → is_some id ≡ true → (checkpoint : Checkpoint) × (by_parts present version parts id ≡ Some checkpoint)
+      some_id : (parts id : Option ℕ) → is_some id ≡ true → (checkpoint : CheckpointRef) × (by_parts present version parts id ≡ Some checkpoint)
       some_id None None some = absurd (true≢false (sym some))
-      some_id None (Some id) some = (in_one (V2 version id (present (V2 version id true))), refl)
-      some_id (Some parts) id some = (in_parts version parts, refl)
+      some_id None (Some id) some = (v2_ref version id (present (V2 version id true)), refl)
+      some_id (Some parts) id some = (parts_ref version parts, refl)
 
       by_place : (place : Place) → In places place → complete_at present place ≡ Some version
-          → (present (Classic version) ≡ true) ⊎ ((checkpoint : Checkpoint) × (by_parts present version (most_parts version) (first_id version) ≡ Some checkpoint))
+          → (present (Classic version) ≡ true) ⊎ ((checkpoint : CheckpointRef) × (by_parts present version (most_parts version) (first_id version) ≡ Some checkpoint))
       by_place (Classic v) at is = inl (let same : v ≡ version = cc in ap (λ (n : ℕ). present (Classic n)) (sym same) ∙ in_is_among places (Classic v) at)
       by_place (V2 v id json) at is =
           let same : v ≡ version = cc in
@@ -157,27 +152,27 @@ module _ (places : List Place) where
       by_place (Staged v id) at is = absurd (let no : ◌≡◌ {A = Option ℕ} None (Some version) = is in cc)
       by_place (Other path) at is = absurd (let no : ◌≡◌ {A = Option ℕ} None (Some version) = is in cc)
 
-      by_classic : (classic : Bool) → present (Classic version) ≡ classic → (present (Classic version) ≡ true) ⊎ ((checkpoint : Checkpoint) × (by_parts present version (most_parts version) (first_id version) ≡ Some checkpoint))
-          → (checkpoint : Checkpoint) × ((if classic then Some (in_one (Classic version)) else by_parts present version (most_parts version) (first_id version)) ≡ Some checkpoint)
-      by_classic true here found = (in_one (Classic version), refl)
+      by_classic : (classic : Bool) → present (Classic version) ≡ classic → (present (Classic version) ≡ true) ⊎ ((checkpoint : CheckpointRef) × (by_parts present version (most_parts version) (first_id version) ≡ Some checkpoint))
+          → (checkpoint : CheckpointRef) × ((if classic then Some (classic_ref version) else by_parts present version (most_parts version) (first_id version)) ≡ Some checkpoint)
+      by_classic true here found = (classic_ref version, refl)
       by_classic false here (inl is) = absurd (true≢false (sym is ∙ here))
       by_classic false here (inr found) = found
 
   -- it is of this version
-  chosen_version : (version : ℕ) (checkpoint : Checkpoint) → checkpoint_at places version ≡ Some checkpoint → version_of checkpoint ≡ version
+  pub chosen_version : (version : ℕ) (checkpoint : CheckpointRef) → checkpoint_at places version ≡ Some checkpoint → version_of checkpoint ≡ version
   chosen_version version checkpoint is = by (present (Classic version)) (greatest (filter_map (parts_at present version) places)) (least (filter_map (id_at version) places)) is
     where
-      at : (found : Checkpoint) → version_of found ≡ version → Some found ≡ Some checkpoint → version_of checkpoint ≡ version
+      at : (found : CheckpointRef) → version_of found ≡ version → Some found ≡ Some checkpoint → version_of checkpoint ≡ version
       at found of_version same = let is_same : found ≡ checkpoint = cc in ap version_of (sym is_same) ∙ of_version
 
-      by : (classic : Bool) (parts id : Option ℕ) → (if classic then Some (in_one (Classic version)) else by_parts present version parts id) ≡ Some checkpoint → version_of checkpoint ≡ version
-      by true parts id is = at (in_one (Classic version)) refl is
-      by false (Some parts) id is = at (in_parts version parts) refl is
-      by false None (Some id) is = at (in_one (V2 version id (present (V2 version id true)))) refl is
-      by false None None is = absurd (let no : ◌≡◌ {A = Option Checkpoint} None (Some checkpoint) = is in cc)
+      by : (classic : Bool) (parts id : Option ℕ) → (if classic then Some (classic_ref version) else by_parts present version parts id) ≡ Some checkpoint → version_of checkpoint ≡ version
+      by true parts id is = at (classic_ref version) refl is
+      by false (Some parts) id is = at (parts_ref version parts) refl is
+      by false None (Some id) is = at (v2_ref version id (present (V2 version id true))) refl is
+      by false None None is = absurd (let no : ◌≡◌ {A = Option CheckpointRef} None (Some checkpoint) = is in cc)
 
   -- the base that is chosen, by the newest checkpoint
-  begins_where : (asked : ℕ) → (c : ℕ) → In (filter_map (complete_at present) places) c → c ≤ asked → suc c ≤ begins_at (base_of places Newest asked)
+  pub begins_where : (asked : ℕ) → (c : ℕ) → In (filter_map (complete_at present) places) c → c ≤ asked → suc c ≤ begins_at (base_of places Newest asked)
   begins_where asked c at most =
       let (v, is, above) = greatest_most (filter (is_allowed Newest asked) (filter_map (complete_at present) places)) c
       (in_filter (is_allowed Newest asked) (filter_map (complete_at present) places) c at (le-leb c asked most)) in
@@ -192,7 +187,7 @@ module _ (places : List Place) where
   -- ---- the walk
 
   -- where each version has its step, and each step goes on, there is no gap
-  no_gap_to : (at : ℕ → Option Step) (asked : ℕ) → ((v : ℕ) (s : Step) → at v ≡ Some s → v < after_step s) → (version count : ℕ) → suc asked ≤ version + count
+  pub no_gap_to : (at : ℕ → Option Step) (asked : ℕ) → ((v : ℕ) (s : Step) → at v ≡ Some s → v < after_step s) → (version count : ℕ) → suc asked ≤ version + count
       → ((w : ℕ) → version ≤ w → w ≤ asked → is_some (at w) ≡ true) → gap_to at asked version count ≡ None
   unfolding gap_to
   no_gap_to at asked onward version zero enough all = refl
@@ -207,7 +202,7 @@ module _ (places : List Place) where
           let low : version ≤ asked = ltb-false asked version is in
           absurd (true≢false (sym (all version (omega arith) low) ∙ ap (λ (o : Option Step). is_some o) here))
 
-some_of_step : (reach : ℕ → Option ℕ) (place_at : ℕ → Option Place) (version : ℕ) → is_some (place_at version) ≡ true → is_some (step_at reach place_at version) ≡ true
+pub some_of_step : (reach : ℕ → Option ℕ) (place_at : ℕ → Option Place) (version : ℕ) → is_some (place_at version) ≡ true → is_some (step_at reach place_at version) ≡ true
 some_of_step reach place_at version some = by (reach version) (place_at version) some
   where
     by : (last : Option ℕ) (place : Option Place) → is_some place ≡ true → is_some (option_or (option_map (compacted_step version) last) (option_map (commit_step version) place)) ≡ true
@@ -215,7 +210,7 @@ some_of_step reach place_at version some = by (reach version) (place_at version)
     by None (Some place) some = refl
     by None None some = absurd (true≢false (sym some))
 
-goes_on : (places : List Place) → ((place : Place) → In places place → IsPlace place) → (allowed : Bool) (asked : ℕ) (place_at : ℕ → Option Place) (v : ℕ) (s : Step)
+pub goes_on : (places : List Place) → ((place : Place) → In places place → IsPlace place) → (allowed : Bool) (asked : ℕ) (place_at : ℕ → Option Place) (v : ℕ) (s : Step)
     → step_at (furthest places allowed asked) place_at v ≡ Some s → v < after_step s
 goes_on places are allowed asked place_at v s is = by allowed (greatest (filter_map (reached_by asked v) places)) refl (place_at v) is
   where
@@ -250,7 +245,7 @@ goes_on places are allowed asked place_at v s is = by allowed (greatest (filter_
 
 -- ---- over events
 
-complete_is_in : (events : List Told) (c : ℕ) → Complete events c → In (filter_map (complete_at (is_among (standing_places events))) (standing_places events)) c
+pub complete_is_in : (events : List Told) (c : ℕ) → Complete events c → In (filter_map (complete_at (is_among (standing_places events))) (standing_places events)) c
 complete_is_in events c (inl at) =
     in_filter_map (complete_at (is_among (standing_places events))) (standing_places events) (Classic c) c (present_is_in events (Classic c) at) refl
 complete_is_in events c (inr (inl (id, (json, at)))) =
@@ -259,41 +254,6 @@ complete_is_in events c (inr (inr (parts, some, all))) =
     in_filter_map (complete_at (is_among (standing_places events))) (standing_places events) (Part c 1 parts) c (present_is_in events (Part c 1 parts) (all 1 (omega arith) some))
     (if_true (has_parts (is_among (standing_places events)) c parts parts) c
     (parts_there (standing_places events) c parts parts (λ part low high. present_is_in events (Part c part parts) (all part low high))))
-
--- whichever checkpoint is chosen, the sidecars that it names stand
-sides_there : MeansOneList → (events : List Told) (horizon : ℤ) → Lawful events horizon → (base : Option Checkpoint) → HasSidecars events base
-sides_there one events horizon lawful None = tt
-sides_there one events horizon lawful (Some (in_one place)) = λ name named. sidecars_stay events horizon lawful place name named
-sides_there one events horizon lawful (Some (in_parts version parts)) = λ name (part, (bytes, holds, (top, means, among))).
-    let share = ((lawful_is_sound events horizon lawful).parts version part parts bytes holds).share in
-    let none : Top = record { actions = share.actions; sidecars = [] } in
-    let same : top ≡ record { actions = share.actions; sidecars = [] } =
-    top_means one (Part version part parts) bytes top (record { actions = share.actions; sidecars = [] }) means (record { means = share.means; named = share.alone }) in
-    absurd (subst (λ (t : Top). Among name t.sidecars) same among)
-
-pub each_from_floor_is_kept : MeansOneList → EachFromFloorIsKept
-each_from_floor_is_kept one events horizon version choice lawful below floor newest = record {
-  no_gap = ap (option_map commit_path) none;
-  sidecars = sides_there one events horizon lawful (base_of (standing_places events) choice.checkpoints version);
-}
-  where
-    readable : (w : ℕ) → begins_at (base_of (standing_places events) choice.checkpoints version) ≤ w → w ≤ version → Available events w
-    readable w least most = elim (kept_from_floor events horizon lawful w version (omega arith) floor) [
-      | inl available ↦ available
-      | inr (checkpoint, low, high, complete) ↦
-          let past = begins_where (standing_places events) version checkpoint (complete_is_in events checkpoint complete) high in
-          let same : begins_at (base_of (standing_places events) choice.checkpoints version) ≡ begins_at (base_of (standing_places events) Newest version) =
-          ap (λ (c : Checkpoints). begins_at (base_of (standing_places events) c version)) newest in
-          absurd (omega (arith, past, same, least, low))
-    ]
-
-    none : gap_to (steps_of (standing_places events) (standing events) choice version) version (begins_at (base_of (standing_places events) choice.checkpoints version)) (suc version) ≡ None
-    none =
-        no_gap_to (standing_places events) (steps_of (standing_places events) (standing events) choice version) version
-        (λ v s is. goes_on (standing_places events) (in_is_place events) choice.compacted version (commit_place (is_among (standing_places events)) (standing events) choice.staged_first) v s is)
-        (begins_at (base_of (standing_places events) choice.checkpoints version)) (suc version) (omega arith)
-        (λ w least most. some_of_step (furthest (standing_places events) choice.compacted version) (commit_place (is_among (standing_places events)) (standing events) choice.staged_first) w
-        (available_there events (is_among (standing_places events)) (λ place at. in_is_among (standing_places events) place (present_is_in events place at)) choice.staged_first w (readable w least most)))
 
 -- ---- by commits alone
 
@@ -337,11 +297,11 @@ plain_is_by_commits places ratified version choice no_checkpoints no_compacted =
     let base : base_of places choice.checkpoints version ≡ None = ap (λ (c : Checkpoints). base_of places c version) no_checkpoints ∙ no_base places version in
     let all : version + 1 ≡ suc version = omega arith in
     let from_start : 0 + suc version ≡ suc version = omega arith in (
-      ap₂ (λ (b : Option Checkpoint) (compacted : Bool). segment_after places ratified version (record choice { compacted = compacted }) b) base no_compacted
+      ap₂ (λ (b : Option CheckpointRef) (compacted : Bool). segment_after places ratified version (record choice { compacted = compacted }) b) base no_compacted
           ∙ ap (λ (steps : List Step). segment_by_steps steps)
           (walked_plainly (commit_place (is_among places) ratified choice.staged_first) version 0 (suc version) from_start
           ∙ ap (steps_from (commit_place (is_among places) ratified choice.staged_first) 0) (sym all)),
-      ap₂ (λ (b : Option Checkpoint) (compacted : Bool). option_map commit_path (gap_to (steps_of places ratified (record choice { compacted = compacted }) version) version (begins_at b) (suc version))) base no_compacted
+      ap₂ (λ (b : Option CheckpointRef) (compacted : Bool). option_map commit_path (gap_to (steps_of places ratified (record choice { compacted = compacted }) version) version (begins_at b) (suc version))) base no_compacted
           ∙ ap (option_map commit_path)
           (gap_plainly (commit_place (is_among places) ratified choice.staged_first) version 0 (suc version) from_start
           ∙ ap (gap_from (commit_place (is_among places) ratified choice.staged_first) 0) (sym all)),

@@ -4,12 +4,12 @@ use Rattle.std.specs.Prelude.{◌==◌}
 use Rattle.std.proofs.lemmas.Bool.{cases_lt}
 use Rattle.dk_paths.specs.Names.{commit_path}
 use Rattle.dk_paths.specs.Places.{Place, Commit_at, Classic, Part, V2, Compacted, Hint, Sidecar, Staged, Other}
+use Rattle.dk_lawful.specs.declared.segment.CheckpointRef.{CheckpointRef}
 use Rattle.dk_lawful.specs.declared.segment.Checkpoints.{Checkpoints}
 use Rattle.dk_lawful.specs.declared.segment.Choice.{Choice}
 use Rattle.dk_lawful.specs.declared.segment.Segment.{Segment}
 use Rattle.dk_lawful.specs.declared.segment.Step.{Step}
-use Rattle.dk_lawful.specs.Checkpoints.{Checkpoint, in_one}
-use Rattle.dk_lawful.specs.Segments.{is_among, id_named, published_at, staged_at, preferred, commit_place, greatest, lesser, least, has_parts, complete_at, is_allowed, base_version, parts_at, id_at, by_id, by_parts, checkpoint_at, base_of, reached_by, furthest, step_at, gap_to, begins_at, ref_of, walked_to, steps_of}
+use Rattle.dk_lawful.specs.Segments.{is_among, id_named, published_at, staged_at, preferred, commit_place, greatest, lesser, least, has_parts, complete_at, is_allowed, base_version, parts_at, id_at, classic_ref, v2_ref, by_id, by_parts, checkpoint_at, base_of, reached_by, furthest, step_at, gap_to, begins_at, walked_to, steps_of}
 use Rattle.dk_lawful.specs.Openable.{IsReadFrom, SamePlacesReadAlike}
 use Rattle.dk_lawful.proofs.StandingPlaces.{In, in_is_among, among_is_in, in_filter, of_filter}
 use Rattle.dk_lawful.proofs.Openable.{in_filter_map, of_filter_map, greatest_in, greatest_most}
@@ -33,7 +33,7 @@ greatest_alike ns ms to back = by (greatest ns) (greatest ms) refl refl
         let same : n ≡ m = omega (arith, one, other, most, most_other) in
         ap Some same
 
-least_in : (ns : List ℕ) (n : ℕ) → least ns ≡ Some n → In ns n
+pub least_in : (ns : List ℕ) (n : ℕ) → least ns ≡ Some n → In ns n
 least_in [] n is = absurd (let no : ◌≡◌ {A = Option ℕ} None (Some n) = is in cc)
 least_in (m ∷ ns) n is = let same : lesser m (least ns) ≡ n = cc in by (least ns) refl same (least_in ns n)
   where
@@ -188,7 +188,7 @@ module _ (places others : List Place) (same : (place : Place) → IsReadFrom pla
 
   by_id_alike : (version : ℕ) (id : Option ℕ) → by_id (is_among places) version id ≡ by_id (is_among others) version id
   by_id_alike version None = refl
-  by_id_alike version (Some id) = ap (λ (b : Bool). Some (in_one (V2 version id b))) (same (V2 version id true) tt)
+  by_id_alike version (Some id) = ap (λ (b : Bool). Some (v2_ref version id b)) (same (V2 version id true) tt)
 
   by_parts_alike : (version : ℕ) (parts id : Option ℕ) → by_parts (is_among places) version parts id ≡ by_parts (is_among others) version parts id
   by_parts_alike version None id = by_id_alike version id
@@ -196,14 +196,14 @@ module _ (places others : List Place) (same : (place : Place) → IsReadFrom pla
 
   checkpoint_alike : (version : ℕ) → checkpoint_at places version ≡ checkpoint_at others version
   checkpoint_alike version =
-      ap₂ (λ (b : Bool) (rest : Option Checkpoint). if b then Some (in_one (Classic version)) else rest) (same (Classic version) tt)
+      ap₂ (λ (b : Bool) (rest : Option CheckpointRef). if b then Some (classic_ref version) else rest) (same (Classic version) tt)
       (by_parts_alike version (greatest (filter_map (parts_at (is_among places) version) places)) (least (filter_map (id_at version) places))
       ∙ ap₂ (by_parts (is_among others) version) (most_alike version) (id_alike version))
 
   base_alike : (allowed : Checkpoints) (asked : ℕ) → base_of places allowed asked ≡ base_of others allowed asked
   base_alike allowed asked =
       let both : checkpoint_at places ≡ checkpoint_at others = λ i version. checkpoint_alike version i in
-      ap₂ (λ (f : ℕ → Option Checkpoint) (v : Option ℕ). option_and_then f v) both (allowed_alike allowed asked)
+      ap₂ (λ (f : ℕ → Option CheckpointRef) (v : Option ℕ). option_and_then f v) both (allowed_alike allowed asked)
 
   place_alike : (ratified : ℕ → Option (List ℕ)) (staged_first : Bool) (version : ℕ) → commit_place (is_among places) ratified staged_first version ≡ commit_place (is_among others) ratified staged_first version
   place_alike ratified staged_first version = ap₂ (preferred staged_first) staged published
@@ -220,13 +220,13 @@ module _ (places others : List Place) (same : (place : Place) → IsReadFrom pla
   steps_alike ratified choice asked version =
       ap₂ (λ (reach : Option ℕ) (place : Option Place). step_at (λ v. reach) (λ v. place) version) (reach_alike choice.compacted asked version) (place_alike ratified choice.staged_first version)
 
-abbrev pub segment_by : (ℕ → Option Step) → ℕ → Option Checkpoint → Segment
-segment_by at asked base = record { base = option_and_then ref_of base; steps = walked_to at asked (begins_at base) (suc asked) }
+abbrev pub segment_by : (ℕ → Option Step) → ℕ → Option CheckpointRef → Segment
+segment_by at asked base = record { base = base; steps = walked_to at asked (begins_at base) (suc asked) }
 
 pub same_places_read_alike : SamePlacesReadAlike
 same_places_read_alike places others ratified version choice same =
     let steps : steps_of places ratified choice version ≡ steps_of others ratified choice version = λ i v. steps_alike places others same ratified choice version v i in
     let base = base_alike places others same choice.checkpoints version in (
-      ap₂ (λ (at : ℕ → Option Step) (b : Option Checkpoint). segment_by at version b) steps base,
-      ap₂ (λ (at : ℕ → Option Step) (b : Option Checkpoint). option_map commit_path (gap_to at version (begins_at b) (suc version))) steps base,
+      ap₂ (λ (at : ℕ → Option Step) (b : Option CheckpointRef). segment_by at version b) steps base,
+      ap₂ (λ (at : ℕ → Option Step) (b : Option CheckpointRef). option_map commit_path (gap_to at version (begins_at b) (suc version))) steps base,
     )

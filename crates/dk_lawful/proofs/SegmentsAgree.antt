@@ -13,13 +13,13 @@ use Rattle.dk_model.specs.State.{empty_state, step, steps, steps_of_all, fold, a
 use Rattle.dk_model.specs.Texts.{ByText}
 use Rattle.dk_model.proofs.Changes.{tombstone_given, get-tombstones-step}
 use Rattle.dk_store.specs.Told.{Told}
-use Rattle.dk_paths.specs.Places.{Place, Staged}
+use Rattle.dk_paths.specs.Places.{Staged}
+use Rattle.dk_lawful.specs.declared.segment.CheckpointRef.{CheckpointRef}
 use Rattle.dk_lawful.specs.declared.segment.Step.{Step}
 use Rattle.dk_lawful.specs.declared.segment.Step.TheVariants as walk
 use Rattle.dk_lawful.specs.Present.{Holds}
 use Rattle.dk_lawful.specs.History.{history, commits_of, next_version, table_at}
 use Rattle.dk_lawful.specs.Agree.{Agree}
-use Rattle.dk_lawful.specs.Checkpoints.{Top, IsTopOf, PartsMean, Checkpoint, in_one, in_parts, CheckpointMeans}
 use Rattle.dk_lawful.specs.Lawful.{Lawful}
 use Rattle.std.proofs.lemmas.Option.{slice_get_within}
 use Rattle.dk_paths.specs.Staged.{staged_name}
@@ -28,7 +28,7 @@ use Rattle.dk_lawful.proofs.OneMeaning.{one_value}
 use Rattle.dk_lawful.proofs.Sound.{length_commits}
 use Rattle.dk_lawful.proofs.SoundOthers.{lawful_is_sound}
 use Rattle.dk_lawful.proofs.Stays.{standing_commit_is_history, staged_commit_is_history}
-use Rattle.dk_lawful.proofs.WholeCheckpoints.{read_parts_stand, read_tops_stand}
+use Rattle.dk_lawful.proofs.WholeCheckpoints.{read_checkpoints_stand}
 use Rattle.dk_lawful.specs.SegmentLaws.{StepHolds, StepMeans, GoOn, StepsMean, BaseMeans, ReadAgrees, ReadWithoutBase, StandingStepMeans}
 
 -- ---- agreement is kept by each step on both sides
@@ -174,30 +174,16 @@ module _ (events : List Told) (horizon : ℤ) (lawful : Lawful events horizon) w
 
   -- ---- the base
 
-  base_top : (place : Place) (version : ℕ) (actions : List Action) → IsTopOf place version → CheckpointMeans events (in_one place) actions → version < next_version events
-  base_top place version actions is means = let (bytes, holds, top) = means.means in ((lawful_is_sound events horizon lawful).tops place version is bytes holds).within
-
-  base_parts : (version parts : ℕ) (top : Top) → 1 ≤ parts → PartsMean events version parts parts top → version < next_version events
-  base_parts version zero top some means = absurd (omega arith)
-  base_parts version (suc before) top some (front, own, fronts, (bytes, holds, is), actions, sides) =
-      ((lawful_is_sound events horizon lawful).parts version (suc before) (suc before) bytes holds).within
-
-  base_agrees : MeansOneList → (base : Option Checkpoint) (next : ℕ) (actions : List Action) → BaseMeans events base next actions
+  base_agrees : MeansOneList → (base : Option CheckpointRef) (next : ℕ) (actions : List Action) → BaseMeans events base next actions
       → (next ≤ next_version events) × Agree (steps empty_state actions) (fold (take next commits)) horizon
   base_agrees one None next actions (at, none) = (
     (omega arith),
     subst (λ n. Agree (steps empty_state actions) (fold (take n commits)) horizon) (sym at)
         (subst (λ (own : List Action). Agree (steps empty_state own) empty_state horizon) (sym none) (agrees_itself empty_state horizon)),
   )
-  base_agrees one (Some (in_one place)) next actions (version, is, means, at) =
-      let within = base_top place version actions is means in
-      ((omega arith), subst (λ n. Agree (steps empty_state actions) (fold (take n commits)) horizon) (sym at) (read_tops_stand one events horizon lawful place version actions is means))
-  base_agrees one (Some (in_parts v parts)) next actions (version, (same, some), means, at) =
-      let within = base_parts v parts means.top some means.means in (
-        (omega arith),
-        subst (λ n. Agree (steps empty_state actions) (fold (take n commits)) horizon) (ap (λ n. n + 1) same ∙ sym at)
-            (read_parts_stand one events horizon lawful v parts actions some means),
-      )
+  base_agrees one (Some checkpoint) next actions (version, is, means, at) =
+      let (within, stands) = read_checkpoints_stand one events horizon lawful checkpoint version actions is means in
+      ((omega arith), subst (λ n. Agree (steps empty_state actions) (fold (take n commits)) horizon) (sym at) stands)
 
 pub read_agrees : MeansOneList → ReadAgrees
 read_agrees one events horizon lawful base walked version state from =

@@ -4,12 +4,13 @@ use Rattle.dk_model.specs.declared.action.Action.{Action}
 use Rattle.dk_model.specs.declared.action.Action.TheVariants as action
 use Rattle.dk_store.specs.Told.{Told, Made}
 use Rattle.dk_paths.specs.Names.{commit_path}
-use Rattle.dk_paths.specs.Places.{sidecar_name}
+use Rattle.dk_paths.specs.Places.{Staged, place_path, sidecar_name}
 use Rattle.dk_lawful.specs.History.{table_at}
 use Rattle.dk_lawful.specs.Lawful.{Lawful}
 use Rattle.dk_lawful.specs.Ids.{StandsOnce, AddOnce, AddNone}
 use Rattle.dk_lawful.specs.Actors.{Snapshot, Transaction, Job, Actors, drawn, begun, Fits}
 use Rattle.dk_lawful.specs.Example.{example}
+use Rattle.dk_lawful.specs.ManagedExample.{added, founded}
 
 -- ---- a transaction and a job
 
@@ -57,3 +58,32 @@ AddsAgain = AddOnce (signing_again ∷ (signing ∷ [])) example (codes "i") →
 
 abbrev pub AddsOne : Type 0
 AddsOne = AddNone (signing ∷ []) example (codes "i") → ⊥
+
+-- ---- a transaction with a staged commit of its own
+
+-- of the managed table, as its version 1: the file, under the transaction's id
+unfoldable pub own_text : List ℕ
+own_text =
+    codes "{\"commitInfo\":{\"inCommitTimestamp\":6,\"txnId\":\"00000000-0000-0000-0000-000000000007\"}}\n{\"add\":{\"modificationTime\":5,\"path\":\"a\",\"size\":1}}\n"
+
+abbrev pub own_actions : List Action
+own_actions = action.Info (record { in_commit_timestamp = Some (pos 6); txn_id = Some (codes "00000000-0000-0000-0000-000000000007") }) ∷ added (codes "a") ∷ []
+
+abbrev pub own_staged : List Told
+own_staged = Made (place_path (Staged 1 8)) own_text (pos 1) ∷ founded
+
+abbrev pub opened_managed : Snapshot
+opened_managed = record { version = 0; state = table_at founded 0 }
+
+-- it drew its id and that of its staged commit, which it made at the moment 6
+abbrev pub with_own : Transaction
+with_own = record { id = 7; snapshot = Some opened_managed; put = added (codes "a") ∷ []; own = Some (record { version = 1; uuid = 8 }); answered = None }
+
+abbrev pub staging_actors : Actors
+staging_actors = record { base = 7; count = 2; transactions = with_own ∷ []; jobs = [] }
+
+abbrev pub OwnIsLawful : Type 0
+OwnIsLawful = (horizon : ℤ) → Lawful own_staged horizon
+
+abbrev pub OwnFitsThere : Type 0
+OwnFitsThere = (horizon : ℤ) → Fits own_staged horizon staging_actors

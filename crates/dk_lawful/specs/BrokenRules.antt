@@ -4,6 +4,7 @@ use Rattle.dk_model.specs.declared.action.Action.{Action}
 use Rattle.dk_model.specs.declared.action.Action.TheVariants as action
 use Rattle.dk_store.specs.Told.{Told, Made}
 use Rattle.dk_paths.specs.Names.{commit_path}
+use Rattle.dk_lawful.specs.Example.{an_add, a_table}
 
 -- what its writer says of it
 unfoldable pub informing_text : List ℕ
@@ -41,17 +42,7 @@ appending_text =
 abbrev pub appending_actions : List Action
 appending_actions =
     action.Protocol (record { min_reader = 1; min_writer = 2; reader_features = None; writer_features = None })
-    ∷ action.Metadata (record {
-      id = codes "t";
-      name = None;
-      description = None;
-      provider = codes "parquet";
-      options = [];
-      schema_string = codes "{}";
-      partition_columns = [];
-      created_time = None;
-      configuration = (codes "delta.appendOnly", Some (codes "true")) ∷ [];
-    })
+    ∷ a_table (codes "{}") ((codes "delta.appendOnly", Some (codes "true")) ∷ [])
     ∷ []
 
 -- a file goes with its rows
@@ -63,3 +54,21 @@ removing_actions = action.Remove (record { path = codes "a"; deletion_timestamp 
 
 abbrev pub appended : List Told
 appended = Made (commit_path 0) appending_text (pos 0) ∷ []
+
+-- a file with a deletion vector
+unfoldable pub vector_text : List ℕ
+vector_text = codes "{\"add\":{\"deletionVector\":{\"storageType\":\"u\"},\"modificationTime\":5,\"path\":\"b\",\"size\":1}}\n"
+
+abbrev pub vector_actions : List Action
+vector_actions = an_add (codes "b") (pos 1) true ∷ []
+
+-- a table begins that a catalogue manages, and whose commits don't say their times
+unfoldable pub untimed_text : List ℕ
+untimed_text =
+    codes "{\"protocol\":{\"minReaderVersion\":3,\"minWriterVersion\":7,\"readerFeatures\":[\"catalogManaged\"],\"writerFeatures\":[\"catalogManaged\"]}}\n{\"metaData\":{\"id\":\"t\",\"schemaString\":\"s\"}}\n"
+
+abbrev pub untimed_actions : List Action
+untimed_actions =
+    action.Protocol (record { min_reader = 3; min_writer = 7; reader_features = Some (codes "catalogManaged" ∷ []); writer_features = Some (codes "catalogManaged" ∷ []) })
+    ∷ a_table (codes "s") []
+    ∷ []

@@ -6,6 +6,7 @@ use Rattle.dk_store.specs.Told.{Told, Made, Deleted}
 use Rattle.dk_paths.specs.Names.{commit_path}
 use Rattle.dk_paths.specs.Places.{V2, Compacted, Sidecar, place_path}
 use Rattle.dk_lawful.specs.Floor.{FromFloor}
+use Rattle.dk_lawful.specs.BrokenRules.{sidecar_text, sidecar_actions}
 use Rattle.dk_lawful.specs.Contents.{mark}
 use Rattle.dk_lawful.specs.Example.{first_text, first_actions, second_text, second_actions, example}
 use Rattle.dk_lawful.specs.MoreExamples.{compacting, side_name}
@@ -48,6 +49,31 @@ naming_text = mark_text_1 ++ (first_text ++ (second_text ++ side_text))
 
 abbrev pub naming_actions : List Action
 naming_actions = mark 1 ∷ (first_actions ++ (second_actions ++ side_action ∷ []))
+
+-- ones of the right actions that say another version, no version, and their version twice, and one that names no sidecar's name
+abbrev pub older_marked_text : List ℕ
+older_marked_text = mark_text_1 ++ first_text
+
+abbrev pub older_marked_actions : List Action
+older_marked_actions = mark 1 ∷ first_actions
+
+abbrev pub unmarked_text : List ℕ
+unmarked_text = first_text ++ second_text
+
+abbrev pub unmarked_actions : List Action
+unmarked_actions = first_actions ++ second_actions
+
+abbrev pub marked_twice_text : List ℕ
+marked_twice_text = mark_text_1 ++ whole_text
+
+abbrev pub marked_twice_actions : List Action
+marked_twice_actions = mark 1 ∷ whole_actions
+
+abbrev pub misnaming_text : List ℕ
+misnaming_text = whole_text ++ sidecar_text
+
+abbrev pub misnaming_actions : List Action
+misnaming_actions = whole_actions ++ sidecar_actions
 
 -- both checkpoints come after the compacted file of the commits
 abbrev pub checkpointing : List Told → List Told

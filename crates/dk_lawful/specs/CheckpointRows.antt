@@ -38,13 +38,13 @@ each_by turn no_fields cs = cs
 each_by turn (one_field f fs) no_cells = no_cells
 each_by turn (one_field f fs) (one_cell c cs) = one_cell (turn f c) (each_by turn fs cs)
 
-abbrev pub in_group : (Field → Datum → Datum) → Field → Datum → Datum
-in_group turn f (group cs) = group (each_by turn (fields_at (shape_in f)) cs)
-in_group turn f c = c
+abbrev pub turned_group : (Field → Datum → Datum) → Field → Datum → Datum
+turned_group turn f (group cs) = group (each_by turn (fields_at (shape_in f)) cs)
+turned_group turn f c = c
 
 -- in a row, whose groups are those of the kinds of actions
 abbrev pub counted : Fields → Datum → Datum
-counted fs row = in_group (in_group counted_cell) (root fs) row
+counted fs row = turned_group (turned_group counted_cell) (root fs) row
 
 -- ---- the meaning of rows
 

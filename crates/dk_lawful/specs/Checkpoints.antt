@@ -1,5 +1,5 @@
 -- What the objects of checkpoints mean (Delta Lake's PROTOCOL.md, "Checkpoints", "V2 Spec", "Sidecar File Information").
-use Rattle.std.specs.Prelude.{◌≡◌, ℕ, zero, suc, ℤ, Bool, true, false, ◌&&◌, ◌==◌, ◌⊎◌, List, [], ◌∷◌, ◌++◌, Option, Some, None, option_map, option_and_then, if◌then◌else◌}
+use Rattle.std.specs.Prelude.{◌≡◌, ℕ, suc, ℤ, Bool, true, false, ◌&&◌, ◌==◌, ◌⊎◌, List, [], ◌∷◌, ◌++◌, Option, Some, None, option_map, option_and_then, if◌then◌else◌, ◌≤◌}
 use Rattle.std.specs.List.{list_any, list_all, filter_map}
 use Rattle.std.specs.Str.{is_utf8}
 use Rattle.percent_encoding.specs.Percent.{percent_decode}
@@ -10,7 +10,10 @@ use Rattle.dk_model.specs.declared.action.Action.TheVariants as action
 use Rattle.dk_model.specs.declared.state.TableState.{TableState}
 use Rattle.dk_model.specs.CommitText.{commit_of}
 use Rattle.dk_store.specs.Told.{Told}
-use Rattle.dk_paths.specs.Places.{Place, Classic, Part, V2, Sidecar, is_sidecar_name}
+use Rattle.dk_store.specs.Objects.{content}
+use Rattle.dk_paths.specs.Places.{Place, Classic, Part, V2, Sidecar, place_of, is_sidecar_name}
+use Rattle.dk_lawful.specs.declared.segment.CheckpointRef.{CheckpointRef}
+use Rattle.dk_lawful.specs.declared.segment.CheckpointRef.TheVariants as refs
 use Rattle.dk_lawful.specs.Present.{Holds}
 use Rattle.dk_lawful.specs.CheckpointSchema.{read_fields}
 use Rattle.dk_lawful.specs.CheckpointRows.{actions_of_rows}
@@ -66,14 +69,18 @@ pub record HasTop (json : Bool) (bytes : List ℕ) (top : Top) : Type 0 where
   pub named : sidecars_of top.actions ≡ Some top.sidecars
 
 -- the versions that are written in a checkpoint of the form V2
-abbrev pub version_in : Action → Option ℕ
-version_in (action.CheckpointMeta meta) = Some meta.version
-version_in _ = None
+abbrev pub marked_version : Action → Option ℕ
+marked_version (action.CheckpointMeta meta) = Some meta.version
+marked_version _ = None
 
--- the object at its place; at a name of the form V2 it has exactly one version, that of the name
+-- an object with a name of the form V2 has exactly one, that of its name
+abbrev pub HasV2Top : ℕ → Bool → List ℕ → Top → Type 0
+HasV2Top version json bytes top = HasTop json bytes top × (filter_map marked_version top.actions ≡ version ∷ [])
+
+-- an object by its place
 abbrev pub TopMeans : Place → List ℕ → Top → Type 0
 TopMeans (Classic version) bytes top = HasTop false bytes top
-TopMeans (V2 version id json) bytes top = HasTop json bytes top × (filter_map version_in top.actions ≡ version ∷ [])
+TopMeans (V2 version id json) bytes top = HasV2Top version json bytes top
 TopMeans (Part version part parts) bytes top = HasTop false bytes top
 TopMeans _ bytes top = ⊥
 
@@ -117,31 +124,52 @@ NamesSidecar place bytes name = (top : Top) × TopMeans place bytes top × Among
 abbrev pub Names : List Told → Place → List ℕ → Type 0
 Names events place name = (version : ℕ) × IsTopOf place version × ((bytes : List ℕ) × Holds events place bytes × NamesSidecar place bytes name)
 
--- ---- a whole checkpoint
+-- ---- a whole checkpoint, by the paths of its objects
 
--- one object, or parts
-pub data Checkpoint : Type 0 where
-  in_one : (place : Place) → Checkpoint
-  in_parts : (version parts : ℕ) → Checkpoint
+-- what the object means that stands at a path, read in this way
+abbrev pub ObjectMeans : List Told → (List ℕ → Top → Type 0) → List ℕ → Top → Type 0
+ObjectMeans events reads path top = (bytes : List ℕ) × (content events path ≡ Some bytes) × reads bytes top
 
-abbrev pub ObjectMeans : List Told → Place → Top → Type 0
-ObjectMeans events place top = (bytes : List ℕ) × Holds events place bytes × TopMeans place bytes top
+-- the actions of parts, in order, and the sidecars that they name
+abbrev pub PartsMean : List Told → List (List ℕ) → Top → Type 0
+PartsMean events [] whole = (whole.actions ≡ []) × (whole.sidecars ≡ [])
+PartsMean events (path ∷ paths) whole =
+    (own : Top) × (rest : Top) × ObjectMeans events (HasTop false) path own × PartsMean events paths rest
+    × (whole.actions ≡ own.actions ++ rest.actions) × (whole.sidecars ≡ own.sidecars ++ rest.sidecars)
 
--- the actions of the parts up to one, in order, and the sidecars that they name
-abbrev pub PartsMean : List Told → ℕ → ℕ → ℕ → Top → Type 0
-PartsMean events version parts zero whole = (whole.actions ≡ []) × (whole.sidecars ≡ [])
-PartsMean events version parts (suc before) whole =
-    (front : Top) × (own : Top) × PartsMean events version parts before front × ObjectMeans events (Part version (suc before) parts) own
-    × (whole.actions ≡ front.actions ++ own.actions) × (whole.sidecars ≡ front.sidecars ++ own.sidecars)
-
-abbrev pub ObjectsMean : List Told → Checkpoint → Top → Type 0
-ObjectsMean events (in_one place) top = ObjectMeans events place top
-ObjectsMean events (in_parts version parts) top = PartsMean events version parts parts top
+abbrev pub ObjectsMean : List Told → CheckpointRef → Top → Type 0
+ObjectsMean events (refs.Classic version path) top = ObjectMeans events (HasTop false) path top
+ObjectsMean events (refs.Parts version parts paths) top = PartsMean events paths top
+ObjectsMean events (refs.V2 version path json) top = ObjectMeans events (HasV2Top version json) path top
 
 -- A checkpoint means the actions of its object, or of its parts from the first on, and then those of each sidecar that they name.
-pub record CheckpointMeans (events : List Told) (checkpoint : Checkpoint) (actions : List Action) : Type 0 where
+pub record CheckpointMeans (events : List Told) (checkpoint : CheckpointRef) (actions : List Action) : Type 0 where
   pub top : Top
   pub means : ObjectsMean events checkpoint top
   pub sides : List Action
   pub sides_mean : SidesMean events top.sidecars sides
   pub all : actions ≡ top.actions ++ sides
+
+-- ---- the checkpoints of a version
+
+-- the paths are those of the parts of so many that come after the first ones
+abbrev pub ArePartPaths : ℕ → ℕ → ℕ → List (List ℕ) → Type 0
+ArePartPaths version parts before [] = before ≡ parts
+ArePartPaths version parts before (path ∷ paths) = (place_of path ≡ Part version (suc before) parts) × ArePartPaths version parts (suc before) paths
+
+-- it is one of this version, and its paths are those of its objects
+abbrev pub IsCheckpointOf : CheckpointRef → ℕ → Type 0
+IsCheckpointOf (refs.Classic v path) version = (v ≡ version) × (place_of path ≡ Classic version)
+IsCheckpointOf (refs.Parts v parts paths) version = (v ≡ version) × (1 ≤ parts) × ArePartPaths version parts 0 paths
+IsCheckpointOf (refs.V2 v path json) version = (v ≡ version) × ((id : ℕ) × (place_of path ≡ V2 version id json))
+
+-- the paths of its objects, in order
+abbrev pub paths_of : CheckpointRef → List (List ℕ)
+paths_of (refs.Classic version path) = path ∷ []
+paths_of (refs.Parts version parts paths) = paths
+paths_of (refs.V2 version path json) = path ∷ []
+
+-- an object stands at each of these paths
+abbrev pub AllStand : List Told → List (List ℕ) → Type 0
+AllStand events [] = Unit {0}
+AllStand events (path ∷ paths) = ((bytes : List ℕ) × (content events path ≡ Some bytes)) × AllStand events paths

@@ -12,7 +12,7 @@ use Rattle.dk_lawful.specs.Present.{AtMostPublished}
 use Rattle.dk_lawful.specs.History.{table_at}
 use Rattle.dk_lawful.specs.Agree.{Agree, Stands}
 use Rattle.dk_lawful.specs.Shares.{HasShare}
-use Rattle.dk_lawful.specs.Checkpoints.{InParquet, HasActions, sidecars_of, version_in, is_file_action, SidesMean}
+use Rattle.dk_lawful.specs.Checkpoints.{InParquet, HasActions, sidecars_of, marked_version, is_file_action, SidesMean}
 use Rattle.dk_lawful.specs.Contents.{classic_content, part_content, sidecar_content, v2_content}
 use Rattle.dk_lawful.specs.Permits.{MayMake}
 
@@ -36,7 +36,7 @@ V2Stands = (state : TableState) (version : ℕ) (cut : ℤ) (references : List S
     → Stands (v2_content state version cut references ++ sidecars_content state cut (length references) (length references)) state cut
 
 abbrev pub V2SaysVersion : Type 0
-V2SaysVersion = (state : TableState) (version : ℕ) (cut : ℤ) (references : List SidecarRef) → filter_map version_in (v2_content state version cut references) ≡ version ∷ []
+V2SaysVersion = (state : TableState) (version : ℕ) (cut : ℤ) (references : List SidecarRef) → filter_map marked_version (v2_content state version cut references) ≡ version ∷ []
 
 abbrev pub SidecarsHaveFiles : Type 0
 SidecarsHaveFiles = (state : TableState) (cut : ℤ) (number count : ℕ) → list_all is_file_action (sidecar_content state cut number count) ≡ true

@@ -8,7 +8,7 @@ use Rattle.dk_model.specs.declared.state.TableState.{TableState}
 use Rattle.dk_model.specs.Contents.{heads, adds, is_later, removals, named_actions, canonical_with}
 use Rattle.dk_features.specs.Names.{v2_checkpoint}
 use Rattle.dk_features.specs.InForce.{has_feature}
-use Rattle.dk_lawful.specs.Shares.{cut_of, files_of}
+use Rattle.dk_lawful.specs.Shares.{share_of, files_of}
 
 -- ---- the form V2
 
@@ -28,14 +28,14 @@ classic_content state version cut = (if has_v2 state then mark version ∷ [] el
 -- of a part: the files of its cut, and in the first part all else
 abbrev pub part_content : TableState → ℤ → ℕ → ℕ → List Action
 part_content state cut zero parts = []
-part_content state cut (suc zero) parts = canonical_with state (is_later cut) (cut_of 0 parts (files_of state))
-part_content state cut (suc (suc before)) parts = adds (cut_of (suc before) parts (files_of state))
+part_content state cut (suc zero) parts = canonical_with state (is_later cut) (share_of 0 parts (files_of state))
+part_content state cut (suc (suc before)) parts = adds (share_of (suc before) parts (files_of state))
 
 -- of a sidecar: the files of its cut, and in the first all tombstones
 abbrev pub sidecar_content : TableState → ℤ → ℕ → ℕ → List Action
 sidecar_content state cut zero count = []
-sidecar_content state cut (suc zero) count = adds (cut_of 0 count (files_of state)) ++ removals state (is_later cut)
-sidecar_content state cut (suc (suc before)) count = adds (cut_of (suc before) count (files_of state))
+sidecar_content state cut (suc zero) count = adds (share_of 0 count (files_of state)) ++ removals state (is_later cut)
+sidecar_content state cut (suc (suc before)) count = adds (share_of (suc before) count (files_of state))
 
 -- of a checkpoint of the form V2 that is one object by a UUID: with sidecars it names them in place of the file actions
 abbrev pub v2_content : TableState → ℕ → ℤ → List SidecarRef → List Action

@@ -1,5 +1,5 @@
 -- A small log, and texts of commits that may come next or may not.
-use Rattle.std.specs.Prelude.{◌≡◌, ℕ, ℤ, pos, negsuc, true, false, List, [], ◌∷◌, ◌++◌, Some, None, codes}
+use Rattle.std.specs.Prelude.{◌≡◌, ℕ, ℤ, pos, negsuc, Bool, true, false, List, [], ◌∷◌, ◌++◌, Option, Some, None, codes}
 use Rattle.dk_model.specs.declared.action.Action.{Action}
 use Rattle.dk_model.specs.declared.action.Action.TheVariants as action
 use Rattle.dk_store.specs.Told.{Told, Made, Ratified}
@@ -10,6 +10,35 @@ use Rattle.dk_lawful.specs.History.{history, by_file}
 use Rattle.dk_lawful.specs.Lawful.{Lawful}
 use Rattle.dk_lawful.specs.Permits.{Permits}
 
+-- a file that is added, and a table's metadata
+abbrev pub an_add : List ℕ → ℤ → Bool → Action
+an_add path size vector = action.Add (record {
+  path = path;
+  partition_values = [];
+  size = size;
+  modification_time = pos 5;
+  data_change = true;
+  stats = None;
+  tags = None;
+  base_row_id = None;
+  default_row_commit_version = None;
+  clustering_provider = None;
+  vector = vector;
+})
+
+abbrev pub a_table : List ℕ → List (List ℕ × Option (List ℕ)) → Action
+a_table schema configuration = action.Metadata (record {
+  id = codes "t";
+  name = None;
+  description = None;
+  provider = codes "parquet";
+  options = [];
+  schema_string = schema;
+  partition_columns = [];
+  created_time = None;
+  configuration = configuration;
+})
+
 -- a table begins
 unfoldable pub first_text : List ℕ
 first_text = codes "{\"protocol\":{\"minReaderVersion\":1,\"minWriterVersion\":1}}\n{\"metaData\":{\"id\":\"t\",\"schemaString\":\"s\"}}\n"
@@ -17,17 +46,7 @@ first_text = codes "{\"protocol\":{\"minReaderVersion\":1,\"minWriterVersion\":1
 abbrev pub first_actions : List Action
 first_actions =
     action.Protocol (record { min_reader = 1; min_writer = 1; reader_features = None; writer_features = None })
-    ∷ action.Metadata (record {
-      id = codes "t";
-      name = None;
-      description = None;
-      provider = codes "parquet";
-      options = [];
-      schema_string = codes "s";
-      partition_columns = [];
-      created_time = None;
-      configuration = [];
-    })
+    ∷ a_table (codes "s") []
     ∷ []
 
 -- it gets a file
@@ -35,21 +54,7 @@ unfoldable pub second_text : List ℕ
 second_text = codes "{\"add\":{\"modificationTime\":5,\"path\":\"a\",\"size\":1}}\n"
 
 abbrev pub second_actions : List Action
-second_actions =
-    action.Add (record {
-      path = codes "a";
-      partition_values = [];
-      size = pos 1;
-      modification_time = pos 5;
-      data_change = true;
-      stats = None;
-      tags = None;
-      base_row_id = None;
-      default_row_commit_version = None;
-      clustering_provider = None;
-      vector = false;
-    })
-    ∷ []
+second_actions = an_add (codes "a") (pos 1) false ∷ []
 
 -- it would get a list of features, another writer version, and a file of a size below 0
 unfoldable pub listing_text : List ℕ
@@ -68,21 +73,7 @@ unfoldable pub shrinking_text : List ℕ
 shrinking_text = codes "{\"add\":{\"modificationTime\":5,\"path\":\"b\",\"size\":-1}}\n"
 
 abbrev pub shrinking_actions : List Action
-shrinking_actions =
-    action.Add (record {
-      path = codes "b";
-      partition_values = [];
-      size = negsuc 0;
-      modification_time = pos 5;
-      data_change = true;
-      stats = None;
-      tags = None;
-      base_row_id = None;
-      default_row_commit_version = None;
-      clustering_provider = None;
-      vector = false;
-    })
-    ∷ []
+shrinking_actions = an_add (codes "b") (negsuc 0) false ∷ []
 
 -- a table begins that a catalogue manages
 unfoldable pub managed_text : List ℕ

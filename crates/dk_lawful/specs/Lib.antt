@@ -1,6 +1,7 @@
 pub mod ActorExample
 pub mod Actors
 pub mod Agree
+pub mod BacklogExample
 pub mod BrokenRules
 pub mod Calls
 pub mod CheckpointExample

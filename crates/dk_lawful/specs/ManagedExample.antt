@@ -10,6 +10,7 @@ use Rattle.dk_lawful.specs.History.{history, by_file, by_catalogue}
 use Rattle.dk_lawful.specs.Lawful.{Lawful}
 use Rattle.dk_lawful.specs.Contents.{mark}
 use Rattle.dk_lawful.specs.CheckpointExample.{mark_text_1}
+use Rattle.dk_lawful.specs.Example.{an_add, a_table}
 
 -- ---- its commits
 
@@ -24,17 +25,7 @@ abbrev pub founding_actions : List Action
 founding_actions =
     said_at 5
     ∷ action.Protocol (record { min_reader = 3; min_writer = 7; reader_features = Some (codes "catalogManaged" ∷ []); writer_features = Some (codes "catalogManaged" ∷ codes "inCommitTimestamp" ∷ []) })
-    ∷ action.Metadata (record {
-      id = codes "t";
-      name = None;
-      description = None;
-      provider = codes "parquet";
-      options = [];
-      schema_string = codes "s";
-      partition_columns = [];
-      created_time = None;
-      configuration = (codes "delta.enableInCommitTimestamps", Some (codes "true")) ∷ [];
-    })
+    ∷ a_table (codes "s") ((codes "delta.enableInCommitTimestamps", Some (codes "true")) ∷ [])
     ∷ []
 
 -- a file, at a later time, and another, at the same one as before
@@ -42,19 +33,7 @@ unfoldable pub adding_text : List ℕ
 adding_text = codes "{\"commitInfo\":{\"inCommitTimestamp\":6}}\n{\"add\":{\"modificationTime\":5,\"path\":\"a\",\"size\":1}}\n"
 
 abbrev pub added : List ℕ → Action
-added path = action.Add (record {
-  path = path;
-  partition_values = [];
-  size = pos 1;
-  modification_time = pos 5;
-  data_change = true;
-  stats = None;
-  tags = None;
-  base_row_id = None;
-  default_row_commit_version = None;
-  clustering_provider = None;
-  vector = false;
-})
+added path = an_add path (pos 1) false
 
 abbrev pub adding_actions : List Action
 adding_actions = said_at 6 ∷ added (codes "a") ∷ []
@@ -76,6 +55,14 @@ staged_once = Made (place_path (Staged 1 7)) adding_text (pos 1) ∷ founded
 
 abbrev pub staged_twice : List Told
 staged_twice = Made (place_path (Staged 1 8)) late_text (pos 2) ∷ staged_once
+
+-- one of the version after that too
+abbrev pub staged_ahead : List Told
+staged_ahead = Made (place_path (Staged 2 5)) adding_text (pos 3) ∷ staged_twice
+
+-- one whose text means nothing
+abbrev pub staged_unreadable : List Told
+staged_unreadable = Made (place_path (Staged 1 6)) (codes "{") (pos 1) ∷ founded
 
 abbrev pub catalogued : List Told
 catalogued = Ratified 1 (staged_name 1 7) ∷ staged_twice

@@ -4,14 +4,16 @@ use Rattle.dk_store.specs.Told.{Told, Made, Over, Deleted, Ratified, Forgotten}
 use Rattle.dk_store.specs.Objects.{object}
 use Rattle.dk_store.specs.Standings.{standing}
 use Rattle.dk_paths.specs.Places.{Place, Commit_at, Classic, Part, V2, Compacted, Hint, Sidecar, Staged, Other, place_of}
+use Rattle.dk_lawful.specs.declared.segment.Checkpoints.{Checkpoints}
 use Rattle.dk_lawful.specs.declared.segment.Checkpoints.TheVariants.{No, Newest}
 use Rattle.dk_lawful.specs.declared.segment.Choice.{Choice}
-use Rattle.dk_lawful.specs.Present.{Holds, Present, Complete}
+use Rattle.dk_lawful.specs.Present.{Present, Complete}
 use Rattle.dk_lawful.specs.History.{next_version}
 use Rattle.dk_lawful.specs.Lawful.{Lawful}
 use Rattle.dk_lawful.specs.Floor.{FromFloor}
-use Rattle.dk_lawful.specs.Checkpoints.{NamesSidecar, Names, Checkpoint, in_one, in_parts}
-use Rattle.dk_lawful.specs.Segments.{is_among, base_of, segment_of, first_gap, HasNoGap, commit_segment, commit_gap}
+use Rattle.dk_lawful.specs.declared.segment.CheckpointRef.{CheckpointRef}
+use Rattle.dk_lawful.specs.Checkpoints.{Top, Among, ObjectsMean, IsCheckpointOf, paths_of, AllStand}
+use Rattle.dk_lawful.specs.Segments.{is_among, version_of, base_of, segment_of, first_gap, HasNoGap, commit_segment, commit_gap}
 
 -- ---- what stands
 
@@ -33,13 +35,11 @@ standing_places events = map place_of (filter (stands events) (written_paths eve
 
 -- ---- a version that can be opened
 
--- an object of the checkpoint names the sidecar
-abbrev pub IsNamedBy : List Told → Checkpoint → List ℕ → Type 0
-IsNamedBy events (in_one place) name = Names events place name
-IsNamedBy events (in_parts version parts) name =
-    (part : ℕ) × ((bytes : List ℕ) × Holds events (Part version part parts) bytes × NamesSidecar (Part version part parts) bytes name)
+-- the checkpoint names the sidecar
+abbrev pub IsNamedBy : List Told → CheckpointRef → List ℕ → Type 0
+IsNamedBy events checkpoint name = (top : Top) × ObjectsMean events checkpoint top × Among name top.sidecars
 
-abbrev pub HasSidecars : List Told → Option Checkpoint → Type 0
+abbrev pub HasSidecars : List Told → Option CheckpointRef → Type 0
 HasSidecars events None = Unit {0}
 HasSidecars events (Some checkpoint) = (name : List ℕ) → IsNamedBy events checkpoint name → Present events (Sidecar name)
 
@@ -54,6 +54,11 @@ pub record IsKept (events : List Told) (version : ℕ) (choice : Choice) : Type 
 abbrev pub EachFromFloorIsKept : Type 0
 EachFromFloorIsKept = (events : List Told) (horizon : ℤ) (version : ℕ) (choice : Choice) → Lawful events horizon → version < next_version events → FromFloor events version
     → choice.checkpoints ≡ Newest → IsKept events version choice
+
+-- What is chosen is a checkpoint of a version that is allowed, by the paths of its objects, which stand.
+abbrev pub BaseStands : Type 0
+BaseStands = (events : List Told) (allowed : Checkpoints) (asked : ℕ) (checkpoint : CheckpointRef) → base_of (standing_places events) allowed asked ≡ Some checkpoint
+    → IsCheckpointOf checkpoint (version_of checkpoint) × (version_of checkpoint ≤ asked) × AllStand events (paths_of checkpoint)
 
 -- Where no checkpoint and no compacted file is chosen, a version is read from its commits alone.
 abbrev pub PlainIsByCommits : Type 0

@@ -5,6 +5,7 @@ use Rattle.dk_pqmodel.specs.RowView.{cells_of_list}
 use Rattle.dk_model.specs.declared.action.Action.{Action}
 use Rattle.dk_model.specs.declared.action.Action.TheVariants as action
 use Rattle.dk_lawful.specs.CheckpointRows.{row_means}
+use Rattle.dk_lawful.specs.Example.{an_add}
 
 abbrev pub text : List ℕ → Datum
 text t = atom (chars t)
@@ -57,19 +58,7 @@ abbrev pub IsRowOf : Datum → Action → Type 0
 IsRowOf row meant = row_means row ≡ Some (Some meant)
 
 abbrev pub file_of : Bool → Action
-file_of vector = action.Add (record {
-  path = codes "a";
-  partition_values = [];
-  size = pos 1;
-  modification_time = pos 5;
-  data_change = true;
-  stats = None;
-  tags = None;
-  base_row_id = None;
-  default_row_commit_version = None;
-  clustering_provider = None;
-  vector = vector;
-})
+file_of vector = an_add (codes "a") (pos 1) vector
 
 -- what these rows mean
 pub record RowsMean : Type 0 where

@@ -1,6 +1,6 @@
 -- What is read of a version, whatever it is read from: a checkpoint or none, and then commits and compacted files, one behind another
 -- (Delta Lake's PROTOCOL.md, "Action Reconciliation", "Log Compaction Files", "Checkpoints", "Catalog-managed tables").
-use Rattle.std.specs.Prelude.{◌≡◌, ℕ, ℤ, ◌+◌, ◌<◌, ◌≤◌, ◌⊎◌, List, [], ◌∷◌, Option, Some, None}
+use Rattle.std.specs.Prelude.{◌≡◌, ℕ, ℤ, ◌+◌, ◌<◌, ◌⊎◌, List, [], ◌∷◌, Option, Some, None}
 use Rattle.dk_model.specs.declared.action.Action.{Action}
 use Rattle.dk_model.specs.declared.state.TableState.{TableState}
 use Rattle.dk_model.specs.CommitText.{commit_of}
@@ -10,11 +10,12 @@ use Rattle.dk_store.specs.Objects.{content}
 use Rattle.dk_store.specs.Standings.{standing}
 use Rattle.dk_paths.specs.Places.{Commit_at, Compacted, Staged, place_of}
 use Rattle.dk_paths.specs.Staged.{staged_name}
+use Rattle.dk_lawful.specs.declared.segment.CheckpointRef.{CheckpointRef}
 use Rattle.dk_lawful.specs.declared.segment.Step.{Step}
 use Rattle.dk_lawful.specs.declared.segment.Step.TheVariants as step
 use Rattle.dk_lawful.specs.History.{next_version, table_at}
 use Rattle.dk_lawful.specs.Agree.{Agree}
-use Rattle.dk_lawful.specs.Checkpoints.{IsTopOf, Checkpoint, in_one, in_parts, CheckpointMeans}
+use Rattle.dk_lawful.specs.Checkpoints.{CheckpointMeans, IsCheckpointOf}
 use Rattle.dk_lawful.specs.Lawful.{Lawful}
 
 -- ---- one step
@@ -27,13 +28,13 @@ abbrev pub IsStepPath : List Told → Step → Type 0
 IsStepPath events (step.Commit version path) = IsCommitPath events version path
 IsStepPath events (step.Compacted first last path) = place_of path ≡ Compacted first last
 
-abbrev pub path_of : Step → List ℕ
-path_of (step.Commit version path) = path
-path_of (step.Compacted first last path) = path
+abbrev pub path_of_step : Step → List ℕ
+path_of_step (step.Commit version path) = path
+path_of_step (step.Compacted first last path) = path
 
 -- its object stands, and has these bytes
 abbrev pub StepHolds : List Told → Step → List ℕ → Type 0
-StepHolds events s bytes = IsStepPath events s × (content events (path_of s) ≡ Some bytes)
+StepHolds events s bytes = IsStepPath events s × (content events (path_of_step s) ≡ Some bytes)
 
 -- and means these actions
 abbrev pub StepMeans : List Told → Step → List Action → Type 0
@@ -54,19 +55,15 @@ StepsMean events (s ∷ later) read = (own : List Action) × (rest : List (List 
 
 -- ---- what they go on from
 
-abbrev pub IsOfVersion : Checkpoint → ℕ → Type 0
-IsOfVersion (in_one place) version = IsTopOf place version
-IsOfVersion (in_parts v parts) version = (v ≡ version) × (1 ≤ parts)
-
 -- a checkpoint means these actions, and the steps go on with the next version; without one there are none, and they go on with version 0
-abbrev pub BaseMeans : List Told → Option Checkpoint → ℕ → List Action → Type 0
+abbrev pub BaseMeans : List Told → Option CheckpointRef → ℕ → List Action → Type 0
 BaseMeans events None next actions = (next ≡ 0) × (actions ≡ [])
-BaseMeans events (Some checkpoint) next actions = (version : ℕ) × IsOfVersion checkpoint version × CheckpointMeans events checkpoint actions × (next ≡ version + 1)
+BaseMeans events (Some checkpoint) next actions = (version : ℕ) × IsCheckpointOf checkpoint version × CheckpointMeans events checkpoint actions × (next ≡ version + 1)
 
 -- ---- a version
 
 -- the state is read from these: the actions of the base, and then those of the steps up to the version
-pub record ReadFrom (events : List Told) (base : Option Checkpoint) (walked : List Step) (version : ℕ) (state : TableState) : Type 0 where
+pub record ReadFrom (events : List Told) (base : Option CheckpointRef) (walked : List Step) (version : ℕ) (state : TableState) : Type 0 where
   pub next : ℕ
   pub actions : List Action
   pub base_means : BaseMeans events base next actions
@@ -80,7 +77,7 @@ pub record ReadFrom (events : List Told) (base : Option Checkpoint) (walked : Li
 -- Of a lawful log whatever a version is read from leads to the state of the history there, but for expired tombstones, and the version
 -- is one of the history;
 abbrev pub ReadAgrees : Type 0
-ReadAgrees = (events : List Told) (horizon : ℤ) → Lawful events horizon → (base : Option Checkpoint) (walked : List Step) (version : ℕ) (state : TableState)
+ReadAgrees = (events : List Told) (horizon : ℤ) → Lawful events horizon → (base : Option CheckpointRef) (walked : List Step) (version : ℕ) (state : TableState)
     → ReadFrom events base walked version state → (version < next_version events) × Agree state (table_at events version) horizon
 
 -- without a checkpoint to exactly that state.

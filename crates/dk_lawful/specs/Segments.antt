@@ -17,7 +17,6 @@ use Rattle.dk_lawful.specs.declared.segment.Step.{Step}
 use Rattle.dk_lawful.specs.declared.segment.Step.TheVariants as step_kinds
 use Rattle.dk_lawful.specs.declared.segment.Step.TheVariants.{Commit}
 use Rattle.dk_lawful.specs.declared.segment.Segment.{Segment}
-use Rattle.dk_lawful.specs.Checkpoints.{Checkpoint, in_one, in_parts}
 
 -- ---- what is there
 
@@ -135,35 +134,38 @@ abbrev pub id_at : ℕ → Place → Option ℕ
 id_at version (V2 v id json) = if v == version then Some id else None
 id_at version _ = None
 
--- At one version a checkpoint in one object by the version's name is taken; else the one in most parts; else the one of the form V2 whose
--- name is least, which in JSON comes first.
-abbrev pub by_id : (Place → Bool) → ℕ → Option ℕ → Option Checkpoint
-by_id present version None = None
-by_id present version (Some id) = Some (in_one (V2 version id (present (V2 version id true))))
-
-abbrev pub by_parts : (Place → Bool) → ℕ → Option ℕ → Option ℕ → Option Checkpoint
-by_parts present version None id = by_id present version id
-by_parts present version (Some parts) id = Some (in_parts version parts)
-
-abbrev pub checkpoint_at : List Place → ℕ → Option Checkpoint
-checkpoint_at places version =
-    if is_among places (Classic version) then Some (in_one (Classic version))
-    else by_parts (is_among places) version (greatest (filter_map (parts_at (is_among places) version) places)) (least (filter_map (id_at version) places))
-
-abbrev pub base_of : List Place → Checkpoints → ℕ → Option Checkpoint
-base_of places allowed asked = option_and_then (checkpoint_at places) (base_version places allowed asked)
-
--- the paths of so many of its parts
+-- the paths of so many of its parts, from the first on
 abbrev pub part_paths : ℕ → ℕ → ℕ → List (List ℕ)
 part_paths version parts zero = []
 part_paths version parts (suc part) = part_paths version parts part ++ place_path (Part version (suc part) parts) ∷ []
 
--- as it is handed to who reads it
-abbrev pub ref_of : Checkpoint → Option CheckpointRef
-ref_of (in_one (Classic version)) = Some (refs.Classic version (place_path (Classic version)))
-ref_of (in_one (V2 version id json)) = Some (refs.V2 version (place_path (V2 version id json)) json)
-ref_of (in_one _) = None
-ref_of (in_parts version parts) = Some (refs.Parts version parts (part_paths version parts parts))
+-- the checkpoints of a version, by the paths of their objects
+abbrev pub classic_ref : ℕ → CheckpointRef
+classic_ref version = refs.Classic version (place_path (Classic version))
+
+abbrev pub parts_ref : ℕ → ℕ → CheckpointRef
+parts_ref version parts = refs.Parts version parts (part_paths version parts parts)
+
+abbrev pub v2_ref : ℕ → ℕ → Bool → CheckpointRef
+v2_ref version id json = refs.V2 version (place_path (V2 version id json)) json
+
+-- At one version a checkpoint in one object by the version's name is taken; else the one in most parts; else the one of the form V2 whose
+-- name is least, which in JSON comes first.
+abbrev pub by_id : (Place → Bool) → ℕ → Option ℕ → Option CheckpointRef
+by_id present version None = None
+by_id present version (Some id) = Some (v2_ref version id (present (V2 version id true)))
+
+abbrev pub by_parts : (Place → Bool) → ℕ → Option ℕ → Option ℕ → Option CheckpointRef
+by_parts present version None id = by_id present version id
+by_parts present version (Some parts) id = Some (parts_ref version parts)
+
+abbrev pub checkpoint_at : List Place → ℕ → Option CheckpointRef
+checkpoint_at places version =
+    if is_among places (Classic version) then Some (classic_ref version)
+    else by_parts (is_among places) version (greatest (filter_map (parts_at (is_among places) version) places)) (least (filter_map (id_at version) places))
+
+abbrev pub base_of : List Place → Checkpoints → ℕ → Option CheckpointRef
+base_of places allowed asked = option_and_then (checkpoint_at places) (base_version places allowed asked)
 
 -- ---- the steps
 
@@ -212,14 +214,13 @@ gap_to at asked version (suc count) = if nat_lt asked version then None else or_
 
 -- ---- a version of the table
 
--- the version that follows a checkpoint, or the first
-abbrev pub version_of : Checkpoint → ℕ
-version_of (in_one (Classic version)) = version
-version_of (in_one (V2 version id json)) = version
-version_of (in_one _) = 0
-version_of (in_parts version parts) = version
+abbrev pub version_of : CheckpointRef → ℕ
+version_of (refs.Classic version path) = version
+version_of (refs.Parts version parts paths) = version
+version_of (refs.V2 version path json) = version
 
-abbrev pub begins_at : Option Checkpoint → ℕ
+-- the version that follows a checkpoint, or the first
+abbrev pub begins_at : Option CheckpointRef → ℕ
 begins_at None = 0
 begins_at (Some checkpoint) = suc (version_of checkpoint)
 
@@ -228,9 +229,9 @@ steps_of places ratified choice asked version =
     step_at (furthest places choice.compacted asked) (commit_place (is_among places) ratified choice.staged_first) version
 
 -- What a version is read from: the checkpoint that is chosen, or none, and then the steps up to the version.
-abbrev pub segment_after : List Place → (ℕ → Option (List ℕ)) → ℕ → Choice → Option Checkpoint → Segment
+abbrev pub segment_after : List Place → (ℕ → Option (List ℕ)) → ℕ → Choice → Option CheckpointRef → Segment
 segment_after places ratified asked choice base = record {
-  base = option_and_then ref_of base;
+  base = base;
   steps = walked_to (steps_of places ratified choice asked) asked (begins_at base) (suc asked);
 }
 

@@ -88,17 +88,17 @@ says_number (Some (Some text)) number = is_number number (integer_of text)
 
 -- ---- what stays
 
-abbrev pub is_same_text : Option (List ℕ) → Option (List ℕ) → Bool
-is_same_text None None = true
-is_same_text None (Some other) = false
-is_same_text (Some text) None = false
-is_same_text (Some text) (Some other) = bytes_eq text other
+abbrev pub is_same_setting : Option (List ℕ) → Option (List ℕ) → Bool
+is_same_setting None None = true
+is_same_setting None (Some other) = false
+is_same_setting (Some text) None = false
+is_same_setting (Some text) (Some other) = bytes_eq text other
 
 abbrev pub is_same_entry : Option (Option (List ℕ)) → Option (Option (List ℕ)) → Bool
 is_same_entry None None = true
 is_same_entry None (Some other) = false
 is_same_entry (Some entry) None = false
-is_same_entry (Some entry) (Some other) = is_same_text entry other
+is_same_entry (Some entry) (Some other) = is_same_setting entry other
 
 -- both entries are as they were
 abbrev pub is_enabled_as_before : Option Metadata → Option Metadata → Bool

@@ -18,15 +18,15 @@ abbrev pub Setting : Type 0
 Setting = List ℕ × Option (List ℕ)
 
 -- one more setting before those behind it, in place of one of its key, or behind some
-abbrev pub placed : Ordering → Setting → Setting → List Setting → List Setting → List Setting
-placed Less setting first later behind = setting ∷ (first ∷ later)
-placed Equal setting first later behind = setting ∷ later
-placed Greater setting first later behind = first ∷ behind
+abbrev pub setting_placed : Ordering → Setting → Setting → List Setting → List Setting → List Setting
+setting_placed Less setting first later behind = setting ∷ (first ∷ later)
+setting_placed Equal setting first later behind = setting ∷ later
+setting_placed Greater setting first later behind = first ∷ behind
 
 -- settings stand in the order of their keys
 abbrev pub with_setting : Setting → List Setting → List Setting
 with_setting setting [] = setting ∷ []
-with_setting setting (first ∷ later) = placed (slice_cmp nat_cmp setting.0 first.0) setting first later (with_setting setting later)
+with_setting setting (first ∷ later) = setting_placed (slice_cmp nat_cmp setting.0 first.0) setting first later (with_setting setting later)
 
 abbrev pub integer_text : ℤ → List ℕ
 integer_text (pos n) = decimal n

@@ -1,6 +1,6 @@
 //! The law of those who are at work on a table. None of these functions does anything when it runs.
 
-ghost use Rattle.dk_lawful.specs.ActorExample.{AddsAgain, AddsOne, BothFit, SignedTwiceIsLawful, SignedTwiceIsNotOnce};
+ghost use Rattle.dk_lawful.specs.ActorExample.{AddsAgain, AddsOne, BothFit, OwnFitsThere, OwnIsLawful, SignedTwiceIsLawful, SignedTwiceIsNotOnce};
 ghost use Rattle.dk_lawful.specs.Actors.{AllFitWithBegun, BegunFits, GreaterHorizonFits, JobsStayFit, NobodyFits, OthersStayFit, PutStaysFit, TransactionsStayFit};
 
 /// What others do on a lawful log leaves a transaction fit, and a job that makes a checkpoint: what they opened still
@@ -19,7 +19,8 @@ pub fn others_stay_fit()
     ensures with_begun { AllFitWithBegun }
 {}
 
-/// A transaction and a job fit that began on the example. Ids stand in no rule of a commit, so a lawful log may have one twice; that each
+/// A transaction and a job fit that began on the example, and a transaction with a staged commit of its own on a table that a catalogue
+/// manages. Ids stand in no rule of a commit, so a lawful log may have one twice; that each
 /// event adds it only to a history without it, or none does, is what rules that out (Delta Lake's PROTOCOL.md, "Commit Provenance
 /// Information").
 pub fn actors_at_work()
@@ -28,4 +29,6 @@ pub fn actors_at_work()
     ensures not_once { SignedTwiceIsNotOnce }
     ensures adds_again { AddsAgain }
     ensures adds_one { AddsOne }
+    ensures own_lawful { OwnIsLawful }
+    ensures own_fits { OwnFitsThere }
 {}

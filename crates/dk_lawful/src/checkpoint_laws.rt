@@ -1,8 +1,8 @@
 //! The laws of checkpoints. None of these functions does anything when it runs.
 
 ghost use Rattle.std.specs.Prelude.{[], codes, pos, true, ◌∷◌};
-ghost use Rattle.dk_lawful.specs.CheckpointExample.{ClearedFloor, checkpointing, clearing, lacking_text, naming, naming_text, whole_text};
-ghost use Rattle.dk_lawful.specs.CheckpointLaws.{CheckpointMeansOne, PartsStand, ReadPartsStand, ReadTopsStand, TopsStand};
+ghost use Rattle.dk_lawful.specs.CheckpointExample.{ClearedFloor, checkpointing, clearing, lacking_text, marked_twice_text, misnaming_text, naming, naming_text, older_marked_text, unmarked_text, whole_text};
+ghost use Rattle.dk_lawful.specs.CheckpointLaws.{CheckpointMeansOne, CheckpointsStand, PartsStand, ReadCheckpointsStand};
 ghost use Rattle.dk_lawful.specs.ContentLaws.{ClassicMayBeMade, ClassicStands, PartHasShare, PartMayBeMade, ShareComposes, SidecarsHaveFiles, StandingComposes, V2MayBeMade, V2SaysVersion, V2Stands};
 ghost use Rattle.dk_lawful.specs.CutExample.{CutTells};
 ghost use Rattle.dk_lawful.specs.Example.{IsForbidden, example, first_text, managed_text, ratifying, staged_name_1, staging};
@@ -19,11 +19,10 @@ ghost use Rattle.dk_store.specs.Told.{Deleted, Made, Over, Ratified};
 /// moments (Delta Lake's PROTOCOL.md, "Checkpoints"). Where a Parquet file means at most one list of rows, which is a
 /// premise here, a checkpoint means one list of actions, so the same holds of whatever is read of it.
 pub fn checkpoints_stand()
+    ensures stand { CheckpointsStand }
     ensures parts { PartsStand }
-    ensures tops { TopsStand }
     ensures one { MeansOneList → CheckpointMeansOne }
-    ensures read_parts { MeansOneList → ReadPartsStand }
-    ensures read_tops { MeansOneList → ReadTopsStand }
+    ensures read { MeansOneList → ReadCheckpointsStand }
 {}
 
 /// What is written of a checkpoint of a well kept state leads back to it, but for tombstones up to the cut: as one object,
@@ -67,9 +66,13 @@ pub fn checkpoints_come_and_go()
 /// For each condition on checkpoints, on what is written over or deleted, and on what follows a ratification an event that
 /// it forbids.
 pub fn forbidden_checkpoints()
-    // a checkpoint of a version that isn't published, at a name of another version, that lacks actions, or whose sidecar is absent
+    // a checkpoint of a version that isn't published, that says another version than its name, none, or its own twice, that names
+    // no sidecar's name, that lacks actions, or whose sidecar is absent
     ensures beyond { IsForbidden example (Made (place_path (V2 2 7 true)) whole_text (pos 2)) }
-    ensures other_version { IsForbidden example (Made (place_path (V2 0 7 true)) whole_text (pos 2)) }
+    ensures other_version { IsForbidden example (Made (place_path (V2 0 7 true)) older_marked_text (pos 2)) }
+    ensures no_version { IsForbidden example (Made (place_path (V2 1 7 true)) unmarked_text (pos 2)) }
+    ensures version_twice { IsForbidden example (Made (place_path (V2 1 7 true)) marked_twice_text (pos 2)) }
+    ensures no_sidecar_name { IsForbidden example (Made (place_path (V2 1 7 true)) misnaming_text (pos 2)) }
     ensures does_other { IsForbidden example (Made (place_path (V2 1 7 true)) lacking_text (pos 2)) }
     ensures sidecar_absent { IsForbidden example (Made (place_path (V2 1 7 true)) naming_text (pos 2)) }
 
@@ -79,6 +82,7 @@ pub fn forbidden_checkpoints()
 
     // what is written over
     ensures over_checkpoint { IsForbidden example (Over (place_path (V2 1 7 true)) whole_text (pos 2)) }
+    ensures over_classic { IsForbidden example (Over (place_path (Classic 1)) whole_text (pos 2)) }
     ensures over_part { IsForbidden example (Over (place_path (Part 1 1 2)) whole_text (pos 2)) }
     ensures over_compacted { IsForbidden example (Over (place_path (Compacted 0 1)) whole_text (pos 2)) }
     ensures over_sidecar { IsForbidden example (Over (place_path (Sidecar side_name)) whole_text (pos 2)) }
@@ -87,6 +91,7 @@ pub fn forbidden_checkpoints()
     // what is deleted with no complete checkpoint above it, or for a compacted file from its first version on
     ensures commit_of_checkpoint { IsForbidden (checkpointing example) (Deleted (commit_path 1)) }
     ensures newest_checkpoint { IsForbidden (checkpointing example) (Deleted (place_path (V2 1 7 true))) }
+    ensures newest_classic { IsForbidden (checkpointing example) (Deleted (place_path (Classic 1))) }
     ensures newest_part { IsForbidden (checkpointing example) (Deleted (place_path (Part 1 1 2))) }
     ensures compacted_above { IsForbidden (checkpointing example) (Deleted (place_path (Compacted 2 3))) }
 

@@ -1,13 +1,14 @@
 //! The laws of the log, for the crates above. None of these functions does anything when it runs.
 
 ghost use Rattle.std.specs.Prelude.{[], codes, pos, true, ◌++◌, ◌∷◌, ◌≡◌, ℤ};
-ghost use Rattle.dk_lawful.specs.BrokenRules.{appended, applying_text, informing_text, removing_text, settling_text, sidecar_text};
+ghost use Rattle.dk_lawful.specs.BacklogExample.{BacklogIsLawful, both_ratified, covered, next_text};
+ghost use Rattle.dk_lawful.specs.BrokenRules.{appended, applying_text, informing_text, removing_text, settling_text, sidecar_text, untimed_text, vector_text};
 ghost use Rattle.dk_lawful.specs.Calls.{DeleteKeepsLawful, ForgetKeepsLawful, KeepsLawfulOnwards, NoCutIsSame, PutNewKeepsLawful, PutOverKeepsLawful, RatifyKeepsLawful, SameIsPastEach};
 ghost use Rattle.dk_lawful.specs.Example.{ExampleHistory, ExampleIsLawful, IsForbidden, example, first_text, listing_text, managed_actions, managed_text, ratifying, second_actions, second_text, shrinking_text, staging, upgrading_text};
 ghost use Rattle.dk_lawful.specs.History.{by_catalogue, by_file, history};
 ghost use Rattle.dk_lawful.specs.Lawful.{Lawful};
 ghost use Rattle.dk_lawful.specs.Laws.{AgreeingHaveSameRules, CommitsStay, CompleteIsPublished, EachCameItsWay, EachIsValid, FeaturesStay, FilesStay, FilesUpToJoin, FloorIsUpward, GreaterHorizonIsLawful, HistoryGrows, KeptFromFloor, LastIsAvailable, LastIsFromFloor, LastIsPublished, LastPublishedIsOne, LogShowsHistory, LowWriterIsUnmanaged, ManagementStays, NeededStays, NextIsFree, NextIsRatifiedNext, NoneBeyondLast, OneAtATime, PrefixesAreLawful, PublishedStays, PutAddsCommit, PutKeepsLawful, PutLeavesFloor, RatifiedIsAboveJoin, RatifiedIsManaged, RatifiedStays, ReadLogIsHistory, RulesByHeads, SidecarsStay, StagedCommitIsHistory, StandingCommitIsHistory, TableIsWhole, TakenAddsNothing, UnpublishedIsStaged, WholeLogIsOne};
-ghost use Rattle.dk_lawful.specs.ManagedExample.{ManagedHistory, ManagedIsLawful, adding_text, catalogued, checkpoint_text, late_text, staged_twice};
+ghost use Rattle.dk_lawful.specs.ManagedExample.{ManagedHistory, ManagedIsLawful, adding_text, catalogued, checkpoint_text, founded, late_text, staged_ahead, staged_twice, staged_unreadable};
 ghost use Rattle.dk_lawful.specs.SoFar.{ReadSoFar, RulesSoFar, WrittenHasNeither};
 ghost use Rattle.dk_lawful.specs.Transacted.{TransactedPlainly};
 ghost use Rattle.dk_lawful.specs.MoreExamples.{IsLawfulAfter, cleaning, compacting, dropping, forgetting, hinting, staged_event, storing};
@@ -181,8 +182,9 @@ pub fn forbidden_events()
     ensures over { IsForbidden example (Over (commit_path 1) second_text (pos 2)) }
     ensures deleted { IsForbidden example (Deleted (commit_path 0)) }
 
-    // a compacted file that does something else than its commits, or has one that isn't published
+    // a compacted file that does something else than its commits, means nothing, or has one that isn't published
     ensures wrong_sum { IsForbidden example (Made (place_path (Compacted 0 1)) second_text (pos 2)) }
+    ensures unreadable_sum { IsForbidden example (Made (place_path (Compacted 0 1)) (codes "{") (pos 2)) }
     ensures sum_beyond { IsForbidden example (Made (place_path (Compacted 1 2)) second_text (pos 2)) }
 
     // a staged commit of a version that came, a ratification of a table that isn't managed, and that more is forgotten than is published
@@ -207,6 +209,10 @@ pub fn broken_rules()
 
     // a domain without its feature
     ensures domain_early { IsForbidden example (Made (commit_path 2) settling_text (pos 2)) }
+
+    // a managed table whose commits don't say their times, and a file with a deletion vector
+    ensures untimed { IsForbidden [] (Made (commit_path 0) untimed_text (pos 0)) }
+    ensures vector_added { IsForbidden example (Made (commit_path 2) vector_text (pos 2)) }
 {}
 
 /// A lawful log of a table that a catalogue manages: two commits of one version are staged, one is ratified and published, the
@@ -216,15 +222,27 @@ pub fn managed_tables()
     ensures lawful { ManagedIsLawful }
     ensures history { ManagedHistory }
 
-    // a valid commit by file; a ratification whose commit isn't later than the one before, under another name, or of a later version
+    // a valid commit by file; a ratification whose commit isn't later than the one before, under another name, of a later version, or
+    // whose staged commit is absent or means nothing
     ensures by_file { IsForbidden staged_twice (Made (commit_path 1) adding_text (pos 3)) }
     ensures not_later { IsForbidden staged_twice (Ratified 1 (staged_name 1 8)) }
     ensures other_name { IsForbidden staged_twice (Ratified 1 (codes "x")) }
-    ensures not_next { IsForbidden staged_twice (Ratified 2 (staged_name 2 7)) }
+    ensures not_next { IsForbidden staged_ahead (Ratified 2 (staged_name 2 5)) }
+    ensures staged_absent { IsForbidden founded (Ratified 1 (staged_name 1 7)) }
+    ensures staged_means_nothing { IsForbidden staged_unreadable (Ratified 1 (staged_name 1 6)) }
 
     // a backfill with other bytes; and before the version is published its checkpoint, that it is forgotten, and that it goes
     ensures other_bytes { IsForbidden catalogued (Made (commit_path 1) late_text (pos 3)) }
     ensures checkpoint_early { IsForbidden catalogued (Made (place_path (V2 1 9 true)) checkpoint_text (pos 4)) }
     ensures forgotten_early { IsForbidden catalogued (Forgotten 1) }
     ensures dropped_early { IsForbidden catalogued (Deleted (place_path (Staged 1 7))) }
+{}
+
+/// A lawful log of the same table, of which two versions are ratified before either is published, a checkpoint comes, and one of
+/// them goes after its ratification is forgotten. A later version isn't published before an earlier one, and what stands
+/// ratified doesn't go, though a complete checkpoint is above it (Delta Lake's PROTOCOL.md, "Catalog-managed tables").
+pub fn ratified_backlog()
+    ensures lawful { BacklogIsLawful }
+    ensures ahead { IsForbidden both_ratified (Made (commit_path 2) next_text (pos 5)) }
+    ensures ratified { IsForbidden covered (Deleted (commit_path 1)) }
 {}

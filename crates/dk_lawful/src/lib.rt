@@ -18,7 +18,8 @@ pub use id_laws::ids_stand_once;
 pub use laws::{
     broken_rules, calls_keep_the_law, example_goes_on, example_histories, example_is_lawful,
     forbidden_events, history_only_grows, log_is_the_history, managed_tables, needed_stays,
-    next_commit_is_added, permitted_one_by_one, ratified_stays, rules_of_a_commit,
+    next_commit_is_added, permitted_one_by_one, ratified_backlog, ratified_stays,
+    rules_of_a_commit,
 };
 pub use segment::{CheckpointRef, Checkpoints, Choice, Segment, Step, StepList};
 pub use segment_laws::{segments_agree, versions_stay_kept};

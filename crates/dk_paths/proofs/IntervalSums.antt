@@ -11,7 +11,7 @@ use Rattle.std.proofs.lemmas.Int.{to_z_pos}
 use Rattle.std.proofs.lemmas.List.Folds.{list_all_more}
 use Rattle.std.proofs.lemmas.List.Sums.{sum_by-cons}
 use Rattle.std.proofs.lemmas.Int.Digits.{digits_value_more}
-use Rattle.dk_paths.specs.Intervals.{times, before, number_of, unit_of, pair_values, sum_of_pairs}
+use Rattle.dk_paths.specs.Intervals.{times, before, amount_of, unit_of, pair_values, sum_of_pairs}
 use Rattle.dk_paths.proofs.Digits.{digit_of, is_digit}
 
 -- the sum of the pairs that are left, after `count` pairs of `total` milliseconds
@@ -85,7 +85,7 @@ ends_alone count total number rest after whole first alone same =
 
 -- a pair, and what is left behind it
 pair_in : (count total : ℕ) (number unit : List ℕ) (rest after behind : List (List ℕ)) (whole : Option ℤ) → rest ≡ number ∷ after → after ≡ unit ∷ behind
-    → sum_after count total (pair_values rest) ≡ whole → sum_after count total (before (times (number_of number) (unit_of unit)) (pair_values behind)) ≡ whole
+    → sum_after count total (pair_values rest) ≡ whole → sum_after count total (before (times (amount_of number) (unit_of unit)) (pair_values behind)) ≡ whole
 pair_in count total number unit rest after behind whole first second same =
     ap (λ (words : List (List ℕ)). sum_after count total (pair_values (number ∷ words))) (sym second)
     ∙ ap (λ (words : List (List ℕ)). sum_after count total (pair_values words)) (sym first) ∙ same
@@ -95,7 +95,7 @@ no_times None unit is = refl
 no_times (Some number) unit is = ap (times (Some number)) is
 
 pub ends_number : (count total : ℕ) (number unit : List ℕ) (rest after behind : List (List ℕ)) (whole : Option ℤ) → rest ≡ number ∷ after
-    → after ≡ unit ∷ behind → None ≡ number_of number → sum_after count total (pair_values rest) ≡ whole → None ≡ whole
+    → after ≡ unit ∷ behind → None ≡ amount_of number → sum_after count total (pair_values rest) ≡ whole → None ≡ whole
 ends_number count total number unit rest after behind whole first second none same =
     sym (no_pairs count total)
     ∙ ap (λ (found : Option ℕ). sum_after count total (before (times found (unit_of unit)) (pair_values behind))) none
@@ -105,11 +105,11 @@ pub ends_unit : (count total : ℕ) (number unit : List ℕ) (rest after behind 
     → after ≡ unit ∷ behind → None ≡ unit_of unit → sum_after count total (pair_values rest) ≡ whole → None ≡ whole
 ends_unit count total number unit rest after behind whole first second none same =
     sym (no_pairs count total)
-    ∙ ap (λ (found : Option ℕ). sum_after count total (before found (pair_values behind))) (sym (no_times (number_of number) (unit_of unit) (sym none)))
+    ∙ ap (λ (found : Option ℕ). sum_after count total (before found (pair_values behind))) (sym (no_times (amount_of number) (unit_of unit) (sym none)))
     ∙ pair_in count total number unit rest after behind whole first second same
 
 pub goes_on : (count total n u : ℕ) (number unit : List ℕ) (rest after behind : List (List ℕ)) (whole : Option ℤ) → rest ≡ number ∷ after
-    → after ≡ unit ∷ behind → Some n ≡ number_of number → Some u ≡ unit_of unit → sum_after count total (pair_values rest) ≡ whole
+    → after ≡ unit ∷ behind → Some n ≡ amount_of number → Some u ≡ unit_of unit → sum_after count total (pair_values rest) ≡ whole
     → sum_after (count + 1) (total + n * u) (pair_values behind) ≡ whole
 goes_on count total n u number unit rest after behind whole first second is_n is_u same =
     sym (sum_after-before count total (n * u) (pair_values behind))

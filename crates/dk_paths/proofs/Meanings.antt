@@ -10,23 +10,23 @@ use Rattle.uuid.specs.Text.{parsed_hyphenated}
 use Rattle.uuid.proofs.OrderLemmas.{from_be_bytes-to_be_bytes_16}
 use Rattle.dk_paths.specs.declared.log_name.LogName.{LogName}
 use Rattle.dk_paths.specs.declared.log_name.LogName.TheVariants.{Commit, Classic, Part, V2Json, V2Parquet, Compacted, Hint, Other}
-use Rattle.dk_paths.specs.Numbers.{digits, version_text, part_text, id_text, number_at, id_at, id_of_bytes}
+use Rattle.dk_paths.specs.Numbers.{digits, version_text, part_text, id_text, digits_at, uuid_at, id_of_bytes}
 use Rattle.dk_paths.specs.Names.{IsNameOf, IsName, is_name, spelling, part_pair, commit_name, candidate, if_spelled, name_of}
 use Rattle.dk_paths.proofs.Digits.{length-digits, take-digits, drop-digits, value-digits}
 use Rattle.dk_paths.proofs.Uuids.{length-id_text, parsed_hyphenated-id_text}
 use Rattle.dk_paths.proofs.Spelled.{version_small, part_small}
 
 -- the number whose digits stand at a place
-pub number_at-digits : (place count number : ℕ) (text rest : List ℕ) → number < 10 ^ count → drop place text ≡ digits count number ++ rest
-    → number_at place count text ≡ number
-unfolding number_at
-number_at-digits place count number text rest small at =
+pub digits_at-digits : (place count number : ℕ) (text rest : List ℕ) → number < 10 ^ count → drop place text ≡ digits count number ++ rest
+    → digits_at place count text ≡ number
+unfolding digits_at
+digits_at-digits place count number text rest small at =
     ap (λ (found : List ℕ). digits_value 10 (take count found)) at ∙ ap (digits_value 10) (take-digits count number rest) ∙ value-digits count number small
 
 -- the UUID whose spelling stands at a place
-pub id_at-text : (place id : ℕ) (text rest : List ℕ) → id < 2 ^ 128 → drop place text ≡ id_text id ++ rest → id_at place text ≡ id
-unfolding id_at
-id_at-text place id text rest small at =
+pub uuid_at-text : (place id : ℕ) (text rest : List ℕ) → id < 2 ^ 128 → drop place text ≡ id_text id ++ rest → uuid_at place text ≡ id
+unfolding uuid_at
+uuid_at-text place id text rest small at =
     let here : take 36 (drop place text) ≡ id_text id = ap (take 36) at ∙ take_at (id_text id) rest 36 (length-id_text id) in
     ap (λ (found : List ℕ). id_of_bytes (parsed_hyphenated found)) here
     ∙ ap (λ (found : Option (List ℕ)). id_of_bytes found) (sym (parsed_hyphenated-id_text id))
@@ -52,12 +52,12 @@ read_back : (name : LogName) → IsName name → candidate (length (spelling nam
 read_back (Commit v) is =
     let text = spelling (Commit v) in
     let long : length text ≡ 25 = length_versioned v (codes ".json") in
-    ap (λ n. candidate n text) long ∙ ap Commit (number_at-digits 0 20 v text (codes ".json") (version_small v is) refl)
+    ap (λ n. candidate n text) long ∙ ap Commit (digits_at-digits 0 20 v text (codes ".json") (version_small v is) refl)
 read_back (Classic v) is =
     let text = spelling (Classic v) in
     let rest = codes ".checkpoint." ++ codes "parquet" in
     let long : length text ≡ 39 = length_versioned v rest in
-    ap (λ n. candidate n text) long ∙ ap Classic (number_at-digits 0 20 v text rest (version_small v is) refl)
+    ap (λ n. candidate n text) long ∙ ap Classic (digits_at-digits 0 20 v text rest (version_small v is) refl)
 read_back (Part v part parts) is =
     let text = spelling (Part v part parts) in
     let pair = part_pair part parts ++ codes ".parquet" in
@@ -70,31 +70,31 @@ read_back (Part v part parts) is =
     let most : part ≤ parts = is.1.last in
     let small : parts < 2 ^ 32 = is.1.small in
     let part_below : part < 2 ^ 32 = omega arith in
-    ap (λ n. candidate n text) long ∙ ap (λ n. Part n (number_at 32 10 text) (number_at 43 10 text)) (number_at-digits 0 20 v text rest (version_small v is.0) refl)
-    ∙ ap (λ n. Part v n (number_at 43 10 text)) (number_at-digits 32 10 part text (codes "." ++ part_text parts ++ codes ".parquet") (part_small part part_below) behind)
-    ∙ ap (λ n. Part v part n) (number_at-digits 43 10 parts text (codes ".parquet") (part_small parts small) last)
+    ap (λ n. candidate n text) long ∙ ap (λ n. Part n (digits_at 32 10 text) (digits_at 43 10 text)) (digits_at-digits 0 20 v text rest (version_small v is.0) refl)
+    ∙ ap (λ n. Part v n (digits_at 43 10 text)) (digits_at-digits 32 10 part text (codes "." ++ part_text parts ++ codes ".parquet") (part_small part part_below) behind)
+    ∙ ap (λ n. Part v part n) (digits_at-digits 43 10 parts text (codes ".parquet") (part_small parts small) last)
 read_back (V2Json v id) is =
     let text = spelling (V2Json v id) in
     let behind = id_text id ++ codes ".json" in
     let rest = codes ".checkpoint." ++ behind in
     let long : length text ≡ 73 = omega (arith, length_versioned v rest, length_id id (codes ".json")) in
-    ap (λ n. candidate n text) long ∙ ap (λ n. V2Json n (id_at 32 text)) (number_at-digits 0 20 v text rest (version_small v is.0) refl)
-    ∙ ap (λ n. V2Json v n) (id_at-text 32 id text (codes ".json") is.1 (behind_version v rest 12))
+    ap (λ n. candidate n text) long ∙ ap (λ n. V2Json n (uuid_at 32 text)) (digits_at-digits 0 20 v text rest (version_small v is.0) refl)
+    ∙ ap (λ n. V2Json v n) (uuid_at-text 32 id text (codes ".json") is.1 (behind_version v rest 12))
 read_back (V2Parquet v id) is =
     let text = spelling (V2Parquet v id) in
     let behind = id_text id ++ codes ".parquet" in
     let rest = codes ".checkpoint." ++ behind in
     let long : length text ≡ 76 = omega (arith, length_versioned v rest, length_id id (codes ".parquet")) in
-    ap (λ n. candidate n text) long ∙ ap (λ n. V2Parquet n (id_at 32 text)) (number_at-digits 0 20 v text rest (version_small v is.0) refl)
-    ∙ ap (λ n. V2Parquet v n) (id_at-text 32 id text (codes ".parquet") is.1 (behind_version v rest 12))
+    ap (λ n. candidate n text) long ∙ ap (λ n. V2Parquet n (uuid_at 32 text)) (digits_at-digits 0 20 v text rest (version_small v is.0) refl)
+    ∙ ap (λ n. V2Parquet v n) (uuid_at-text 32 id text (codes ".parquet") is.1 (behind_version v rest 12))
 read_back (Compacted first last) is =
     let text = spelling (Compacted first last) in
     let behind = version_text last ++ codes ".compacted.json" in
     let rest = codes "." ++ behind in
     let long : length text ≡ 56 = omega (arith, length_versioned first rest, length_versioned last (codes ".compacted.json")) in
     let small : first < 2 ^ 63 = omega (arith, is.0, is.1) in
-    ap (λ n. candidate n text) long ∙ ap (λ n. Compacted n (number_at 21 20 text)) (number_at-digits 0 20 first text rest (version_small first small) refl)
-    ∙ ap (λ n. Compacted first n) (number_at-digits 21 20 last text (codes ".compacted.json") (version_small last is.1) (behind_version first rest 1))
+    ap (λ n. candidate n text) long ∙ ap (λ n. Compacted n (digits_at 21 20 text)) (digits_at-digits 0 20 first text rest (version_small first small) refl)
+    ∙ ap (λ n. Compacted first n) (digits_at-digits 21 20 last text (codes ".compacted.json") (version_small last is.1) (behind_version first rest 1))
 read_back Hint is = refl
 read_back Other is = absurd is
 

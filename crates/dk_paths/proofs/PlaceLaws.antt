@@ -7,25 +7,25 @@ use Rattle.dk_paths.specs.declared.log_name.LogName.TheVariants as names
 use Rattle.dk_paths.specs.Numbers.{version_text}
 use Rattle.dk_paths.specs.Names.{IsNameOf, IsName, spelling, name_of}
 use Rattle.dk_paths.specs.Staged.{IsStagedNameOf, staged_name, staged_of}
-use Rattle.dk_paths.specs.Places.{Place, Commit_at, Classic, Part, V2, Compacted, Hint, Sidecar, Staged, Other, log_front, sidecar_front, staged_front, is_sidecar_name, place_path, behind, staged_place, place_in_folders, place_named, place_behind, place_of, IsPlace, PlaceOfPath, PathOfPlace}
+use Rattle.dk_paths.specs.Places.{Place, Commit_at, Classic, Part, V2, Compacted, Hint, Sidecar, Staged, Other, log_front, sidecar_front, staged_front, is_sidecar_name, place_path, behind_front, staged_place, place_in_folders, place_named, place_behind, place_of, IsPlace, PlaceOfPath, PathOfPlace}
 use Rattle.dk_paths.proofs.Spelled.{version_is_digits}
 use Rattle.dk_paths.proofs.Meanings.{name_of-spelling, name_of-other, IsNameOf-known}
 use Rattle.dk_paths.proofs.StagedNames.{staged_of-staged_name, IsStagedNameOf-staged_of}
 
 -- what follows a front, and the front, are the text
-behind_step : (byte first : ℕ) (front text rest : List ℕ) (same : Bool) → (same ≡ true → byte ≡ first) → (behind front text ≡ Some rest → front ++ rest ≡ text)
-    → (if same then behind front text else None) ≡ Some rest → byte ∷ (front ++ rest) ≡ first ∷ text
+behind_step : (byte first : ℕ) (front text rest : List ℕ) (same : Bool) → (same ≡ true → byte ≡ first) → (behind_front front text ≡ Some rest → front ++ rest ≡ text)
+    → (if same then behind_front front text else None) ≡ Some rest → byte ∷ (front ++ rest) ≡ first ∷ text
 behind_step byte first front text rest true head tail is =
     let heads : byte ≡ first = head refl in
     let tails : front ++ rest ≡ text = tail is in
     cc
 behind_step byte first front text rest false head tail is = cc
 
-pub behind-some : (front text rest : List ℕ) → behind front text ≡ Some rest → front ++ rest ≡ text
-behind-some [] text rest is = cc
-behind-some (byte ∷ front) [] rest is = cc
-behind-some (byte ∷ front) (first ∷ text) rest is =
-    behind_step byte first front text rest (byte == first) (Decides-eqb byte first).0 (behind-some front text rest) is
+pub behind_front-some : (front text rest : List ℕ) → behind_front front text ≡ Some rest → front ++ rest ≡ text
+behind_front-some [] text rest is = cc
+behind_front-some (byte ∷ front) [] rest is = cc
+behind_front-some (byte ∷ front) (first ∷ text) rest is =
+    behind_step byte first front text rest (byte == first) (Decides-eqb byte first).0 (behind_front-some front text rest) is
 
 -- a name in the log's own folder begins with a digit, or is the hint
 not_a_digit : (version : ℕ) (rest more : List ℕ) → version_text version ++ rest ≡ 95 ∷ (115 ∷ more) → ⊥
@@ -91,13 +91,13 @@ of_staged path name None says split is = other path is
 of_staged path name (Some staged) says split is =
     record { allowed = says.0; written = ap (λ (text : List ℕ). log_front ++ (staged_front ++ text)) says.1 ∙ split }
 
-of_folders : (path rest : List ℕ) (sidecar staged : Option (List ℕ)) → log_front ++ rest ≡ path → behind sidecar_front rest ≡ sidecar
-    → behind staged_front rest ≡ staged → place_of path ≡ place_in_folders path sidecar staged → IsPlaceOf path (place_in_folders path sidecar staged)
+of_folders : (path rest : List ℕ) (sidecar staged : Option (List ℕ)) → log_front ++ rest ≡ path → behind_front sidecar_front rest ≡ sidecar
+    → behind_front staged_front rest ≡ staged → place_of path ≡ place_in_folders path sidecar staged → IsPlaceOf path (place_in_folders path sidecar staged)
 of_folders path rest (Some name) staged split sidecars stages is =
-    of_sidecar path name (is_sidecar_name name) refl (ap (λ (text : List ℕ). log_front ++ text) (behind-some sidecar_front rest name sidecars) ∙ split) is
+    of_sidecar path name (is_sidecar_name name) refl (ap (λ (text : List ℕ). log_front ++ text) (behind_front-some sidecar_front rest name sidecars) ∙ split) is
 of_folders path rest None (Some name) split sidecars stages is =
     of_staged path name (staged_of name) (IsStagedNameOf-staged_of name)
-    (ap (λ (text : List ℕ). log_front ++ text) (behind-some staged_front rest name stages) ∙ split) is
+    (ap (λ (text : List ℕ). log_front ++ text) (behind_front-some staged_front rest name stages) ∙ split) is
 of_folders path rest None None split sidecars stages is = other path is
 
 in_log : (path rest : List ℕ) (name : LogName) → log_front ++ rest ≡ path → spelling name ≡ rest → log_front ++ spelling name ≡ path
@@ -112,16 +112,16 @@ of_name path rest (names.V2Json v id) split says is = record { allowed = says.0;
 of_name path rest (names.V2Parquet v id) split says is = record { allowed = says.0; written = in_log path rest (names.V2Parquet v id) split says.1 }
 of_name path rest (names.Compacted first last) split says is = record { allowed = says.0; written = in_log path rest (names.Compacted first last) split says.1 }
 of_name path rest names.Hint split says is = record { allowed = tt; written = in_log path rest names.Hint split says.1 }
-of_name path rest names.Other split says is = of_folders path rest (behind sidecar_front rest) (behind staged_front rest) split refl refl is
+of_name path rest names.Other split says is = of_folders path rest (behind_front sidecar_front rest) (behind_front staged_front rest) split refl refl is
 
-of_rest : (path : List ℕ) (found : Option (List ℕ)) → behind log_front path ≡ found → place_of path ≡ place_behind path found
+of_rest : (path : List ℕ) (found : Option (List ℕ)) → behind_front log_front path ≡ found → place_of path ≡ place_behind path found
     → IsPlaceOf path (place_behind path found)
 of_rest path None split is = other path is
-of_rest path (Some rest) split is = of_name path rest (name_of rest) (behind-some log_front path rest split) (IsNameOf-known rest (name_of rest) refl) is
+of_rest path (Some rest) split is = of_name path rest (name_of rest) (behind_front-some log_front path rest split) (IsNameOf-known rest (name_of rest) refl) is
 
 is_place_of : (path : List ℕ) → IsPlaceOf path (place_of path)
 unfolding place_of
-is_place_of path = of_rest path (behind log_front path) refl refl
+is_place_of path = of_rest path (behind_front log_front path) refl refl
 
 pub path_of_place : PathOfPlace
 path_of_place path = let fact = is_place_of path in (fact.allowed, fact.written)

@@ -3,10 +3,10 @@ use Rattle.std.proofs.Common.{◌≡◌, ℕ, ◌-◌, ◌^◌, ◌<◌, ◌≤�
 use Rattle.std.specs.Prelude.{nat_lt, ◌&&◌, ◌==◌}
 use Rattle.std.specs.Str.{bytes_eq}
 use Rattle.std.proofs.lemmas.Slice.Eq.{bytes_eq-Decides}
-use Rattle.dk_paths.specs.Numbers.{digits, id_text, number_at, id_at}
+use Rattle.dk_paths.specs.Numbers.{digits, id_text, digits_at, uuid_at}
 use Rattle.dk_paths.specs.Staged.{IsStaged, IsStagedNameOf, staged_name, staged_of}
 use Rattle.dk_paths.proofs.Spelled.{SameFront, same_front, version_small}
-use Rattle.dk_paths.proofs.Meanings.{number_at-digits, id_at-text, length_versioned, length_id, behind_version, both, both-is, below-yes, below-is}
+use Rattle.dk_paths.proofs.Meanings.{digits_at-digits, uuid_at-text, length_versioned, length_id, behind_version, both, both-is, below-yes, below-is}
 
 -- a staged commit's name by its front
 pub staged_split : (version id number : ℕ) (rest text : List ℕ) → IsStaged version id → number ≤ 2 ^ 63 - 1 → digits 20 number ++ rest ≡ text
@@ -32,8 +32,8 @@ staged_of-staged_name version id is =
     let text = staged_name version id in
     let rest = codes "." ++ (id_text id ++ codes ".json") in
     let long : length text ≡ 62 = omega (arith, length_versioned version rest, length_id id (codes ".json")) in
-    let number = number_at-digits 0 20 version text rest (version_small version is.version_small) refl in
-    let read = id_at-text 21 id text (codes ".json") is.id_small (behind_version version rest 1) in
+    let number = digits_at-digits 0 20 version text rest (version_small version is.version_small) refl in
+    let read = uuid_at-text 21 id text (codes ".json") is.id_small (behind_version version rest 1) in
     rw (long, number, read) (chosen _ (version, id) (staged_test version id is))
 
 pub staged_of-spelled : (text : List ℕ) (version id : ℕ) → IsStaged version id → staged_name version id ≡ text → staged_of text ≡ Some (version, id)
@@ -70,8 +70,8 @@ named_by text false test staged spells none = none refl
 -- each text says what it names
 pub IsStagedNameOf-staged_of : (text : List ℕ) → IsStagedNameOf text (staged_of text)
 unfolding staged_of
-IsStagedNameOf-staged_of text = named_by text (length text == 62) _ (number_at 0 20 text, id_at 21 text)
-    (test_spells (number_at 0 20 text) (id_at 21 text) text) (nothing_spelled text)
+IsStagedNameOf-staged_of text = named_by text (length text == 62) _ (digits_at 0 20 text, uuid_at 21 text)
+    (test_spells (digits_at 0 20 text) (uuid_at 21 text) text) (nothing_spelled text)
 
 none_by : (text : List ℕ) (found : Option (ℕ × ℕ)) → IsStagedNameOf text found → IsStagedNameOf text None → found ≡ None
 none_by text None names none = refl

@@ -20,8 +20,8 @@ abbrev pub words : List ℕ → List (List ℕ)
 words text = words_after [] text
 
 -- a number has 1 to 12 decimal digits
-abbrev pub number_of : List ℕ → Option ℕ
-number_of word = if nat_le 1 (length word) && (nat_le (length word) 12 && list_all is_ascii_digit word) then Some (digits_value 10 word) else None
+abbrev pub amount_of : List ℕ → Option ℕ
+amount_of word = if nat_le 1 (length word) && (nat_le (length word) 12 && list_all is_ascii_digit word) then Some (digits_value 10 word) else None
 
 -- a word, with or without `s` at its end, without regard to ASCII case
 abbrev pub is_unit : List ℕ → List ℕ → Bool
@@ -54,7 +54,7 @@ before (Some value) (Some values) = Some (value ∷ values)
 abbrev pub pair_values : List (List ℕ) → Option (List ℕ)
 pair_values [] = Some []
 pair_values (number ∷ []) = None
-pair_values (number ∷ (unit ∷ rest)) = before (times (number_of number) (unit_of unit)) (pair_values rest)
+pair_values (number ∷ (unit ∷ rest)) = before (times (amount_of number) (unit_of unit)) (pair_values rest)
 
 -- the sum of one to eight pairs
 abbrev pub sum_of_pairs : Option (List ℕ) → Option ℤ

@@ -3,7 +3,7 @@ use Rattle.std.specs.Prelude.{◌≡◌, ℕ, ◌^◌, ◌<◌, ◌≤◌, ◌==
 use Rattle.std.specs.Str.{bytes_eq}
 use Rattle.dk_paths.specs.declared.log_name.LogName.{LogName}
 use Rattle.dk_paths.specs.declared.log_name.LogName.TheVariants.{Commit, Classic, Part, V2Json, V2Parquet, Compacted, Hint, Other}
-use Rattle.dk_paths.specs.Numbers.{version_text, part_text, id_text, number_at, id_at}
+use Rattle.dk_paths.specs.Numbers.{version_text, part_text, id_text, digits_at, uuid_at}
 
 -- the name of a version's commit
 abbrev pub commit_name : ℕ → List ℕ
@@ -69,12 +69,12 @@ is_name Other = false
 abbrev pub candidate : ℕ → List ℕ → LogName
 candidate length text =
     if length == 16 then Hint
-    else if length == 25 then Commit (number_at 0 20 text)
-    else if length == 39 then Classic (number_at 0 20 text)
-    else if length == 56 then Compacted (number_at 0 20 text) (number_at 21 20 text)
-    else if length == 61 then Part (number_at 0 20 text) (number_at 32 10 text) (number_at 43 10 text)
-    else if length == 73 then V2Json (number_at 0 20 text) (id_at 32 text)
-    else if length == 76 then V2Parquet (number_at 0 20 text) (id_at 32 text)
+    else if length == 25 then Commit (digits_at 0 20 text)
+    else if length == 39 then Classic (digits_at 0 20 text)
+    else if length == 56 then Compacted (digits_at 0 20 text) (digits_at 21 20 text)
+    else if length == 61 then Part (digits_at 0 20 text) (digits_at 32 10 text) (digits_at 43 10 text)
+    else if length == 73 then V2Json (digits_at 0 20 text) (uuid_at 32 text)
+    else if length == 76 then V2Parquet (digits_at 0 20 text) (uuid_at 32 text)
     else Other
 
 -- a name, where a text is its spelling and its numbers are allowed

@@ -22,8 +22,8 @@ unfoldable pub id_text : ℕ → List ℕ
 id_text id = hyphenated_text lower (to_be_bytes w128 id)
 
 -- the number that stands in `count` digits at a place of a text
-unfoldable pub number_at : ℕ → ℕ → List ℕ → ℕ
-number_at place count text = digits_value 10 (take count (drop place text))
+unfoldable pub digits_at : ℕ → ℕ → List ℕ → ℕ
+digits_at place count text = digits_value 10 (take count (drop place text))
 
 -- the number of the UUID's bytes, where there is one
 abbrev pub id_of_bytes : Option (List ℕ) → ℕ
@@ -31,8 +31,8 @@ id_of_bytes None = 0
 id_of_bytes (Some bytes) = from_be_bytes w128 bytes
 
 -- the UUID that stands at a place of a text
-unfoldable pub id_at : ℕ → List ℕ → ℕ
-id_at place text = id_of_bytes (parsed_hyphenated (take 36 (drop place text)))
+unfoldable pub uuid_at : ℕ → List ℕ → ℕ
+uuid_at place text = id_of_bytes (parsed_hyphenated (take 36 (drop place text)))
 
 -- a whole text that is one number of at most `limit`, or none
 abbrev pub ReadsNumber : ℕ → List ℕ → Option ℕ → Type 0

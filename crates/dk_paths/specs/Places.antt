@@ -55,10 +55,10 @@ place_path (Staged version id) = log_front ++ (staged_front ++ staged_name versi
 place_path (Other path) = path
 
 -- what follows a front in a text
-abbrev pub behind : List ℕ → List ℕ → Option (List ℕ)
-behind [] text = Some text
-behind (byte ∷ front) [] = None
-behind (byte ∷ front) (first ∷ text) = if byte == first then behind front text else None
+abbrev pub behind_front : List ℕ → List ℕ → Option (List ℕ)
+behind_front [] text = Some text
+behind_front (byte ∷ front) [] = None
+behind_front (byte ∷ front) (first ∷ text) = if byte == first then behind_front front text else None
 
 -- the place of a path in the folder of sidecars or of staged commits
 abbrev pub staged_place : List ℕ → Option (ℕ × ℕ) → Place
@@ -79,7 +79,7 @@ place_named path rest (names.V2Json version id) = V2 version id true
 place_named path rest (names.V2Parquet version id) = V2 version id false
 place_named path rest (names.Compacted first last) = Compacted first last
 place_named path rest names.Hint = Hint
-place_named path rest names.Other = place_in_folders path (behind sidecar_front rest) (behind staged_front rest)
+place_named path rest names.Other = place_in_folders path (behind_front sidecar_front rest) (behind_front staged_front rest)
 
 abbrev pub place_behind : List ℕ → Option (List ℕ) → Place
 place_behind path None = Other path
@@ -87,7 +87,7 @@ place_behind path (Some rest) = place_named path rest (name_of rest)
 
 -- the place of a path
 unfoldable pub place_of : List ℕ → Place
-place_of path = place_behind path (behind log_front path)
+place_of path = place_behind path (behind_front log_front path)
 
 -- the places that a path can be
 abbrev pub IsPlace : Place → Type 0

@@ -1,7 +1,7 @@
 -- The names of staged commits: how each is spelled, and what a text names.
 use Rattle.std.specs.Prelude.{◌≡◌, ℕ, ◌^◌, ◌<◌, ◌==◌, ◌&&◌, nat_lt, Option, Some, None, MatchOption, List, ◌++◌, length, if◌then◌else◌, codes}
 use Rattle.std.specs.Str.{bytes_eq}
-use Rattle.dk_paths.specs.Numbers.{version_text, id_text, number_at, id_at}
+use Rattle.dk_paths.specs.Numbers.{version_text, id_text, digits_at, uuid_at}
 
 -- the name of a staged commit of a version
 abbrev pub staged_name : ℕ → ℕ → List ℕ
@@ -29,4 +29,4 @@ if_staged version id text =
 
 -- the staged commit that a text names, whose numbers stand where the spelling has them
 unfoldable pub staged_of : List ℕ → Option (ℕ × ℕ)
-staged_of text = if length text == 62 then if_staged (number_at 0 20 text) (id_at 21 text) text else None
+staged_of text = if length text == 62 then if_staged (digits_at 0 20 text) (uuid_at 21 text) text else None

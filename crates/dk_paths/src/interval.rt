@@ -2,7 +2,7 @@
 
 ghost use Rattle.std.specs.Prelude.{◌≡◌, ◌≤◌, ◌<◌, ◌^◌, ◌||◌, IfSome};
 ghost use Rattle.std.specs.Str.{str_eq_ignore_ascii_case};
-ghost use Rattle.dk_paths.specs.Intervals.{interval_of, number_of, pair_values, sum_of_pairs, unit_of, words};
+ghost use Rattle.dk_paths.specs.Intervals.{interval_of, amount_of, pair_values, sum_of_pairs, unit_of, words};
 
 use crate::words::{is_word, next_word};
 
@@ -58,7 +58,7 @@ fn sum_pairs(text: &[u8]) -> Option<i128>
 
 /// A number of 1 to 12 decimal digits.
 fn read_number(word: &[u8]) -> Option<u64>
-    ensures number { result ≡ number_of word.now }
+    ensures number { result ≡ amount_of word.now }
     ensures small { IfSome result (λ number. number < 10 ^ 12) }
 {
     if word.is_empty() || word.len() > MAX_DIGITS {

@@ -16,3 +16,9 @@ returns-clause-adds_again c = at_work.adds_again
 
 pub returns-clause-adds_one : goal.returns-clause-adds_one
 returns-clause-adds_one c = at_work.adds_one
+
+pub returns-clause-own_lawful : goal.returns-clause-own_lawful
+returns-clause-own_lawful c = at_work.own_is_lawful
+
+pub returns-clause-own_fits : goal.returns-clause-own_fits
+returns-clause-own_fits c = at_work.own_fits_there

@@ -64,3 +64,18 @@ returns-clause-ratified_beyond c = forbidden.ratified_beyond
 
 pub returns-clause-other_bytes : goal.returns-clause-other_bytes
 returns-clause-other_bytes c = forbidden.other_bytes
+
+pub returns-clause-no_version : goal.returns-clause-no_version
+returns-clause-no_version c = forbidden.no_version
+
+pub returns-clause-version_twice : goal.returns-clause-version_twice
+returns-clause-version_twice c = forbidden.version_twice
+
+pub returns-clause-no_sidecar_name : goal.returns-clause-no_sidecar_name
+returns-clause-no_sidecar_name c = forbidden.no_sidecar_name
+
+pub returns-clause-over_classic : goal.returns-clause-over_classic
+returns-clause-over_classic c = forbidden.over_classic
+
+pub returns-clause-newest_classic : goal.returns-clause-newest_classic
+returns-clause-newest_classic c = forbidden.newest_classic

@@ -22,3 +22,9 @@ returns-clause-rows_removed c = broken.rows_removed
 
 pub returns-clause-domain_early : goal.returns-clause-domain_early
 returns-clause-domain_early c = broken.domain_early
+
+pub returns-clause-untimed : goal.returns-clause-untimed
+returns-clause-untimed c = broken.untimed
+
+pub returns-clause-vector_added : goal.returns-clause-vector_added
+returns-clause-vector_added c = broken.vector_added

@@ -42,6 +42,9 @@ returns-clause-deleted c = example.deleted
 pub returns-clause-wrong_sum : goal.returns-clause-wrong_sum
 returns-clause-wrong_sum c = more.wrong_sum
 
+pub returns-clause-unreadable_sum : goal.returns-clause-unreadable_sum
+returns-clause-unreadable_sum c = more.unreadable_sum
+
 pub returns-clause-sum_beyond : goal.returns-clause-sum_beyond
 returns-clause-sum_beyond c = more.sum_beyond
 

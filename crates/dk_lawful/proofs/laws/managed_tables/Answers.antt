@@ -20,6 +20,12 @@ returns-clause-other_name c = managed.other_name
 pub returns-clause-not_next : goal.returns-clause-not_next
 returns-clause-not_next c = managed.not_next
 
+pub returns-clause-staged_absent : goal.returns-clause-staged_absent
+returns-clause-staged_absent c = managed.staged_absent
+
+pub returns-clause-staged_means_nothing : goal.returns-clause-staged_means_nothing
+returns-clause-staged_means_nothing c = managed.staged_means_nothing
+
 pub returns-clause-other_bytes : goal.returns-clause-other_bytes
 returns-clause-other_bytes c = managed.other_bytes
 

@@ -1,11 +1,15 @@
 -- The laws are lemmas.
-use Rattle.dk_lawful.proofs.Openable.{each_from_floor_is_kept, cleanup_leaves_floor, others_leave_floor, plain_is_by_commits}
+use Rattle.dk_lawful.proofs.KeptVersions.{base_stands, each_from_floor_is_kept}
+use Rattle.dk_lawful.proofs.Openable.{cleanup_leaves_floor, others_leave_floor, plain_is_by_commits}
 use Rattle.dk_lawful.proofs.SamePlaces.{same_places_read_alike}
 use Rattle.dk_lawful.proofs.StandingPlaces.{standing_places_stand}
 use Rattle.dk_lawful.proofs.segment_laws.versions_stay_kept.Goals as goal
 
 pub returns-clause-kept : goal.returns-clause-kept
 returns-clause-kept c = each_from_floor_is_kept
+
+pub returns-clause-base : goal.returns-clause-base
+returns-clause-base c = base_stands
 
 pub returns-clause-cleanup : goal.returns-clause-cleanup
 returns-clause-cleanup c = cleanup_leaves_floor
