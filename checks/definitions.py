@@ -59,6 +59,10 @@ def main(write):
     document = DOCUMENT.read_text()
     behind = 0
     drawn = {name: entries(crate, names) for name, crate in crates.items()}
+    found = [name for name, _ in BLOCK.findall(document)]
+    for name in sorted({name for name in found if found.count(name) > 1}):
+        behind += 1
+        print(f"docs/DEFINITIONS.md has more than one block drawn from crates/{name}/specs")
     blocks = dict(BLOCK.findall(document))
     for name, text in drawn.items():
         if name not in blocks and text:

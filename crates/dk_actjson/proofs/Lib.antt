@@ -6,4 +6,4 @@ mod Tokens
 mod Rising
 mod LineText
 mod Seen
-mod Slots
+pub mod Slots

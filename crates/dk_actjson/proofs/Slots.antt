@@ -16,11 +16,11 @@ use Rattle.dk_actjson.specs.Seen.{seen, seen_members}
 use Rattle.dk_actjson.specs.Slots.{Slot, slots_after, all_slots}
 use Rattle.dk_actjson.proofs.Turns.{before, before-push}
 
-abbrev slots : Members → List Slot
+abbrev pub slots : Members → List Slot
 slots no_members = []
 slots (member k d ms) = (k, text_or_null d) ∷ slots ms
 
-slots_put : (k : List ℕ) (d : Data) (ms : Members) → slots (put k d ms) ≡ fin.put (slice_cmp nat_cmp) k (text_or_null d) (slots ms)
+pub slots_put : (k : List ℕ) (d : Data) (ms : Members) → slots (put k d ms) ≡ fin.put (slice_cmp nat_cmp) k (text_or_null d) (slots ms)
 slots_put k d no_members = refl
 slots_put k d (member l e ms) =
     elim (slice_cmp nat_cmp k l) as (λ o. slots (match_ordering o (member k d (member l e ms)) (member l d ms) (member l e (put k d ms)))
@@ -34,7 +34,7 @@ slots_seen : (ms : json.Members) (found : Members) → slots (seen_members ms fo
 slots_seen json.no_members found = refl
 slots_seen (json.member k j ms) found = slots_seen ms (put k (seen j) found) ∙ ap (slots_after ms) (slots_put k (seen j) found)
 
-pairs_of-slots : (ms : Members) → pairs_of ms ≡ all_slots (slots ms)
+pub pairs_of-slots : (ms : Members) → pairs_of ms ≡ all_slots (slots ms)
 pairs_of-slots no_members = refl
 pairs_of-slots (member k d ms) = ap (λ rest. option_and_then (λ t. option_map (λ ps. (k, t) ∷ ps) rest) (text_or_null d)) (pairs_of-slots ms)
 

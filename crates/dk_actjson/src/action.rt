@@ -26,8 +26,8 @@ use serde_json::Value;
 use std::alloc::Global;
 
 #[tactic(auto, unfolding(dk_model::specs::ProtocolObject::protocol_of))]
-fn read_protocol<T: Tree>(alloc: Global, object: &T) -> Result<Protocol, ActionFault>
-    ensures { Gives result (protocol_of (T.meant object.now)) }
+fn read_protocol<T: Tree>(alloc: Global, object: T) -> Result<Protocol, ActionFault>
+    ensures { Gives result (protocol_of (T.meant object)) }
 {
     let min_reader = needed(alloc, object, "minReaderVersion")?;
     let min_writer = needed(alloc, object, "minWriterVersion")?;
@@ -42,8 +42,8 @@ fn read_protocol<T: Tree>(alloc: Global, object: &T) -> Result<Protocol, ActionF
 }
 
 #[tactic(auto, unfolding(dk_model::specs::MetadataObject::format_of))]
-fn read_format<T: Tree>(alloc: Global, format: Option<&T>) -> Result<(Text, Pairs), ActionFault>
-    ensures { Gives result (format_of (option_map (λ v. T.meant v.now) format.entry)) }
+fn read_format<T: Tree>(alloc: Global, format: Option<T>) -> Result<(Text, Pairs), ActionFault>
+    ensures { Gives result (format_of (option_map T.meant format)) }
 {
     let Some(object) = format else {
         return Ok((Text::from_str(alloc, "parquet")?, Pairs::empty(alloc)));
@@ -82,8 +82,8 @@ fn names_or_none(alloc: Global, names: Option<Names>) -> Names
 }
 
 #[tactic(auto, unfolding(dk_model::specs::MetadataObject::metadata_of))]
-fn read_metadata<T: Tree>(alloc: Global, object: &T) -> Result<Metadata, ActionFault>
-    ensures { Gives result (metadata_of (T.meant object.now)) }
+fn read_metadata<T: Tree>(alloc: Global, object: T) -> Result<Metadata, ActionFault>
+    ensures { Gives result (metadata_of (T.meant object)) }
 {
     let id = needed(alloc, object, "id")?;
     let name = optional(alloc, object, "name")?;
@@ -108,8 +108,8 @@ fn read_metadata<T: Tree>(alloc: Global, object: &T) -> Result<Metadata, ActionF
 }
 
 #[tactic(auto, unfolding(dk_model::specs::AddObject::add_of))]
-fn read_add<T: Tree>(alloc: Global, object: &T) -> Result<AddFile, ActionFault>
-    ensures { Gives result (add_of (T.meant object.now)) }
+fn read_add<T: Tree>(alloc: Global, object: T) -> Result<AddFile, ActionFault>
+    ensures { Gives result (add_of (T.meant object)) }
 {
     let path = needed(alloc, object, "path")?;
     let values = optional(alloc, object, "partitionValues")?;
@@ -137,8 +137,8 @@ fn read_add<T: Tree>(alloc: Global, object: &T) -> Result<AddFile, ActionFault>
 }
 
 #[tactic(auto, unfolding(dk_model::specs::RemoveObject::remove_of))]
-fn read_remove<T: Tree>(alloc: Global, object: &T) -> Result<RemoveFile, ActionFault>
-    ensures { Gives result (remove_of (T.meant object.now)) }
+fn read_remove<T: Tree>(alloc: Global, object: T) -> Result<RemoveFile, ActionFault>
+    ensures { Gives result (remove_of (T.meant object)) }
 {
     let path = needed(alloc, object, "path")?;
     let time = optional::<i64, T>(alloc, object, "deletionTimestamp")?;
@@ -151,8 +151,8 @@ fn read_remove<T: Tree>(alloc: Global, object: &T) -> Result<RemoveFile, ActionF
 }
 
 #[tactic(auto, unfolding(dk_model::specs::TxnObject::txn_of))]
-fn read_txn<T: Tree>(alloc: Global, object: &T) -> Result<Txn, ActionFault>
-    ensures { Gives result (txn_of (T.meant object.now)) }
+fn read_txn<T: Tree>(alloc: Global, object: T) -> Result<Txn, ActionFault>
+    ensures { Gives result (txn_of (T.meant object)) }
 {
     let app_id = needed(alloc, object, "appId")?;
     let version = needed(alloc, object, "version")?;
@@ -165,8 +165,8 @@ fn read_txn<T: Tree>(alloc: Global, object: &T) -> Result<Txn, ActionFault>
 }
 
 #[tactic(auto, unfolding(dk_model::specs::DomainObject::domain_of))]
-fn read_domain<T: Tree>(alloc: Global, object: &T) -> Result<Domain, ActionFault>
-    ensures { Gives result (domain_of (T.meant object.now)) }
+fn read_domain<T: Tree>(alloc: Global, object: T) -> Result<Domain, ActionFault>
+    ensures { Gives result (domain_of (T.meant object)) }
 {
     let domain = needed(alloc, object, "domain")?;
     let configuration = needed(alloc, object, "configuration")?;
@@ -180,8 +180,8 @@ fn read_domain<T: Tree>(alloc: Global, object: &T) -> Result<Domain, ActionFault
 
 /// What is said of a commit. A field of another form counts as absent.
 #[tactic(auto, unfolding(dk_model::specs::InfoObject::info_of))]
-fn read_info<T: Tree>(alloc: Global, object: &T) -> Result<CommitInfo, ActionFault>
-    ensures { Gives result (Some (info_of (T.meant object.now))) }
+fn read_info<T: Tree>(alloc: Global, object: T) -> Result<CommitInfo, ActionFault>
+    ensures { Gives result (Some (info_of (T.meant object))) }
 {
     let in_commit_timestamp = lenient(alloc, object, "inCommitTimestamp")?;
     let txn_id = lenient(alloc, object, "txnId")?;
@@ -192,16 +192,16 @@ fn read_info<T: Tree>(alloc: Global, object: &T) -> Result<CommitInfo, ActionFau
 }
 
 #[tactic(auto, unfolding(dk_model::specs::CheckpointObjects::checkpoint_meta_of))]
-fn read_checkpoint_meta<T: Tree>(alloc: Global, object: &T) -> Result<CheckpointMeta, ActionFault>
-    ensures { Gives result (checkpoint_meta_of (T.meant object.now)) }
+fn read_checkpoint_meta<T: Tree>(alloc: Global, object: T) -> Result<CheckpointMeta, ActionFault>
+    ensures { Gives result (checkpoint_meta_of (T.meant object)) }
 {
     let version = needed(alloc, object, "version")?;
     Ok(CheckpointMeta { version })
 }
 
 #[tactic(auto, unfolding(dk_model::specs::CheckpointObjects::sidecar_of))]
-fn read_sidecar<T: Tree>(alloc: Global, object: &T) -> Result<SidecarRef, ActionFault>
-    ensures { Gives result (sidecar_of (T.meant object.now)) }
+fn read_sidecar<T: Tree>(alloc: Global, object: T) -> Result<SidecarRef, ActionFault>
+    ensures { Gives result (sidecar_of (T.meant object)) }
 {
     let path = needed(alloc, object, "path")?;
     let size = needed(alloc, object, "sizeInBytes")?;
@@ -210,8 +210,8 @@ fn read_sidecar<T: Tree>(alloc: Global, object: &T) -> Result<SidecarRef, Action
 }
 
 /// The one key of these that the object has.
-fn read_key<T: Tree>(object: &T, keys: &[ActionKey]) -> Result<Option<ActionKey>, ActionFault>
-    ensures { Gives result (one_key (T.meant object.now) keys.now) }
+fn read_key<T: Tree>(object: T, keys: &[ActionKey]) -> Result<Option<ActionKey>, ActionFault>
+    ensures { Gives result (one_key (T.meant object) keys.now) }
 {
     let mut found = None;
     'keys: for key in keys {
@@ -226,8 +226,8 @@ fn read_key<T: Tree>(object: &T, keys: &[ActionKey]) -> Result<Option<ActionKey>
 }
 
 /// The action under a key.
-fn read_under<T: Tree>(alloc: Global, key: ActionKey, object: &T) -> Result<Action, ActionFault>
-    ensures { Gives result (action_under key (T.meant object.now)) }
+fn read_under<T: Tree>(alloc: Global, key: ActionKey, object: T) -> Result<Action, ActionFault>
+    ensures { Gives result (action_under key (T.meant object)) }
 {
     match key {
         ActionKey::Protocol => Ok(Action::Protocol(read_protocol(alloc, object)?)),
@@ -247,9 +247,9 @@ fn read_under<T: Tree>(alloc: Global, key: ActionKey, object: &T) -> Result<Acti
 }
 
 /// The value under a key: an object, but for changed rows, whose value may be any but null.
-fn content<'v, T: Tree>(key: ActionKey, object: &'v T) -> Result<&'v T, ActionFault>
-    ensures { GivesBy (λ v. T.meant v.now) result
-        (needed_of (content_form key) (name_of key) (T.meant object.now)) }
+fn content<T: Tree>(key: ActionKey, object: T) -> Result<T, ActionFault>
+    ensures { GivesBy T.meant result
+        (needed_of (content_form key) (name_of key) (T.meant object)) }
 {
     match key {
         ActionKey::Cdc => object.field(key.name()).ok_or(ActionFault::Bad),
@@ -260,9 +260,9 @@ fn content<'v, T: Tree>(key: ActionKey, object: &'v T) -> Result<&'v T, ActionFa
 fn read_keyed<T: Tree>(
     alloc: Global,
     key: Option<ActionKey>,
-    object: &T,
+    object: T,
 ) -> Result<Option<Action>, ActionFault>
-    ensures { Gives result (keyed (T.meant object.now) key) }
+    ensures { Gives result (keyed (T.meant object) key) }
 {
     let Some(key) = key else {
         return Ok(None);
@@ -271,9 +271,9 @@ fn read_keyed<T: Tree>(
     Ok(Some(read_under(alloc, key, inner)?))
 }
 
-/// The action of a tree, or none where there is nothing to do.
-pub(crate) fn read_action<T: Tree>(alloc: Global, tree: &T) -> Result<Option<Action>, ActionFault>
-    ensures { Gives result (action_in (T.meant tree.now)) }
+/// The action of a tree, or none where there is nothing to do, as `action_of` has it of a value.
+pub fn read_action<T: Tree>(alloc: Global, tree: T) -> Result<Option<Action>, ActionFault>
+    ensures { Gives result (action_in (T.meant tree)) }
 {
     if !tree.is_object() {
         return Err(ActionFault::Bad);

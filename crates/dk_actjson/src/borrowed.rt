@@ -21,55 +21,55 @@ use std::alloc::{AllocError, Global};
 /// How deep arrays and objects may nest.
 const MAX_DEPTH: usize = 127;
 
-impl<'a> Tree for Value<'a> {
+impl<'v, 'a> Tree for &'v Value<'a> {
     ghost use Rattle.json.specs.Value.{value_view};
     ghost use Rattle.dk_actjson.specs.Seen.{seen};
 
-    ghost meant = { λ v. seen (value_view v) };
+    ghost meant = { λ v. seen (value_view v.now) };
 
     #[tactic(auto, using(crate::proofs::Seen::field_by))]
-    fn field(&self, key: &str) -> Option<&Value<'a>> {
+    fn field(self, key: &str) -> Option<&'v Value<'a>> {
         let value = self.get(key)?;
         if value.is_null() { None } else { Some(value) }
     }
 
-    fn is_object(&self) -> bool {
+    fn is_object(self) -> bool {
         matches!(self, Value::Object(_))
     }
 
-    fn text(&self, alloc: Global) -> Result<Text, ActionFault> {
+    fn text(self, alloc: Global) -> Result<Text, ActionFault> {
         match self {
             Value::String(text) => Ok(Text::from_str(alloc, text)?),
             _ => Err(ActionFault::Bad),
         }
     }
 
-    fn whole(&self) -> Option<i64> {
+    fn whole(self) -> Option<i64> {
         match self {
             Value::Number(text) => whole_of(text),
             _ => None,
         }
     }
 
-    fn unsigned(&self) -> Option<u64> {
+    fn unsigned(self) -> Option<u64> {
         match self {
             Value::Number(text) => unsigned_of(text),
             _ => None,
         }
     }
 
-    fn flag(&self) -> Option<bool> {
+    fn flag(self) -> Option<bool> {
         self.as_bool()
     }
 
-    fn names(&self, alloc: Global) -> Result<Names, ActionFault> {
+    fn names(self, alloc: Global) -> Result<Names, ActionFault> {
         match self {
             Value::Array(items) => read_names(alloc, items),
             _ => Err(ActionFault::Bad),
         }
     }
 
-    fn pairs(&self, alloc: Global) -> Result<Pairs, ActionFault> {
+    fn pairs(self, alloc: Global) -> Result<Pairs, ActionFault> {
         match self {
             Value::Object(members) => read_pairs(alloc, members),
             _ => Err(ActionFault::Bad),
@@ -136,8 +136,11 @@ fn slots_of(
     Ok(slots)
 }
 
-/// The pairs of the slots.
-fn pairs_of_slots(alloc: Global, slots: TextMap<Option<Option<Text>>>) -> Result<Pairs, ActionFault>
+/// The pairs of keys that each have a text or null, in the byte order of the keys; `Bad` where one has neither.
+pub fn pairs_of_slots(
+    alloc: Global,
+    slots: TextMap<Option<Option<Text>>>,
+) -> Result<Pairs, ActionFault>
     ensures { Gives result (all_slots (map.entries slots)) }
 {
     let mut list = Vec::with_capacity(alloc, slots.len())?;

@@ -12,10 +12,10 @@ use std::alloc::Global;
 /// The field of that name, which must be there.
 pub(crate) fn needed<F: Form, T: Tree>(
     alloc: Global,
-    object: &T,
+    object: T,
     key: &str,
 ) -> Result<F, ActionFault>
-    ensures { Gives result (needed_of F.form key.now (T.meant object.now)) }
+    ensures { Gives result (needed_of F.form key.now (T.meant object)) }
 {
     match object.field(key) {
         Some(value) => F::read(alloc, value),
@@ -26,10 +26,10 @@ pub(crate) fn needed<F: Form, T: Tree>(
 /// The field of that name, where it is there.
 pub(crate) fn optional<F: Form, T: Tree>(
     alloc: Global,
-    object: &T,
+    object: T,
     key: &str,
 ) -> Result<Option<F>, ActionFault>
-    ensures { Gives result (optional_of F.form key.now (T.meant object.now)) }
+    ensures { Gives result (optional_of F.form key.now (T.meant object)) }
 {
     match object.field(key) {
         Some(value) => Ok(Some(F::read(alloc, value)?)),
@@ -40,10 +40,10 @@ pub(crate) fn optional<F: Form, T: Tree>(
 /// The field of that name, where it is there and has the form.
 pub(crate) fn lenient<F: Form, T: Tree>(
     alloc: Global,
-    object: &T,
+    object: T,
     key: &str,
 ) -> Result<Option<F>, ActionFault>
-    ensures { Gives result (Some (lenient_of F.form key.now (T.meant object.now))) }
+    ensures { Gives result (Some (lenient_of F.form key.now (T.meant object))) }
 {
     match object.field(key) {
         Some(value) => match F::read(alloc, value) {
@@ -56,8 +56,8 @@ pub(crate) fn lenient<F: Form, T: Tree>(
 }
 
 /// The object of that name, which must be there.
-pub(crate) fn needed_group<'v, T: Tree>(object: &'v T, key: &str) -> Result<&'v T, ActionFault>
-    ensures { GivesBy (λ v. T.meant v.now) result (needed_of group key.now (T.meant object.now)) }
+pub(crate) fn needed_group<T: Tree>(object: T, key: &str) -> Result<T, ActionFault>
+    ensures { GivesBy T.meant result (needed_of group key.now (T.meant object)) }
 {
     match object.field(key) {
         Some(value) if value.is_object() => Ok(value),
@@ -66,12 +66,9 @@ pub(crate) fn needed_group<'v, T: Tree>(object: &'v T, key: &str) -> Result<&'v 
 }
 
 /// The object of that name, where it is there.
-pub(crate) fn optional_group<'v, T: Tree>(
-    object: &'v T,
-    key: &str,
-) -> Result<Option<&'v T>, ActionFault>
-    ensures { GivesBy (option_map (λ v. T.meant v.now)) result
-        (optional_of group key.now (T.meant object.now)) }
+pub(crate) fn optional_group<T: Tree>(object: T, key: &str) -> Result<Option<T>, ActionFault>
+    ensures { GivesBy (option_map T.meant) result
+        (optional_of group key.now (T.meant object)) }
 {
     match object.field(key) {
         None => Ok(None),

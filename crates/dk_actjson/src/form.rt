@@ -15,14 +15,14 @@ pub(crate) trait Form: Sized {
     /// What a value of this form has, or none for a value of another form.
     ghost form: { Data → Option Self };
 
-    fn read<T: Tree>(alloc: Global, value: &T) -> Result<Self, ActionFault>
-        ensures { Gives result (form (T.meant value.now)) };
+    fn read<T: Tree>(alloc: Global, value: T) -> Result<Self, ActionFault>
+        ensures { Gives result (form (T.meant value)) };
 }
 
 impl Form for Text {
     ghost form = { text };
 
-    fn read<T: Tree>(alloc: Global, value: &T) -> Result<Text, ActionFault> {
+    fn read<T: Tree>(alloc: Global, value: T) -> Result<Text, ActionFault> {
         value.text(alloc)
     }
 }
@@ -30,7 +30,7 @@ impl Form for Text {
 impl Form for i64 {
     ghost form = { whole };
 
-    fn read<T: Tree>(_alloc: Global, value: &T) -> Result<i64, ActionFault> {
+    fn read<T: Tree>(_alloc: Global, value: T) -> Result<i64, ActionFault> {
         value.whole().ok_or(ActionFault::Bad)
     }
 }
@@ -39,7 +39,7 @@ impl Form for i64 {
 impl Form for u32 {
     ghost form = { version };
 
-    fn read<T: Tree>(_alloc: Global, value: &T) -> Result<u32, ActionFault> {
+    fn read<T: Tree>(_alloc: Global, value: T) -> Result<u32, ActionFault> {
         match value.unsigned() {
             Some(number) if number < 2_147_483_648 => Ok(number as u32),
             _ => Err(ActionFault::Bad),
@@ -51,7 +51,7 @@ impl Form for u32 {
 impl Form for u64 {
     ghost form = { count };
 
-    fn read<T: Tree>(_alloc: Global, value: &T) -> Result<u64, ActionFault> {
+    fn read<T: Tree>(_alloc: Global, value: T) -> Result<u64, ActionFault> {
         match value.unsigned() {
             Some(number) if number < 9_223_372_036_854_775_808 => Ok(number),
             _ => Err(ActionFault::Bad),
@@ -62,7 +62,7 @@ impl Form for u64 {
 impl Form for bool {
     ghost form = { flag };
 
-    fn read<T: Tree>(_alloc: Global, value: &T) -> Result<bool, ActionFault> {
+    fn read<T: Tree>(_alloc: Global, value: T) -> Result<bool, ActionFault> {
         value.flag().ok_or(ActionFault::Bad)
     }
 }
@@ -70,7 +70,7 @@ impl Form for bool {
 impl Form for Names {
     ghost form = { names };
 
-    fn read<T: Tree>(alloc: Global, value: &T) -> Result<Names, ActionFault> {
+    fn read<T: Tree>(alloc: Global, value: T) -> Result<Names, ActionFault> {
         value.names(alloc)
     }
 }
@@ -78,7 +78,7 @@ impl Form for Names {
 impl Form for Pairs {
     ghost form = { pairs };
 
-    fn read<T: Tree>(alloc: Global, value: &T) -> Result<Pairs, ActionFault> {
+    fn read<T: Tree>(alloc: Global, value: T) -> Result<Pairs, ActionFault> {
         value.pairs(alloc)
     }
 }

@@ -17,9 +17,11 @@ mod tree;
 mod write;
 mod written;
 
-pub use action::action_of;
+pub use action::{action_of, read_action};
+pub use borrowed::pairs_of_slots;
 pub use fault::ActionFault;
 pub use read::read_commit;
+pub use tree::Tree;
 pub use write::{
     append_action, append_add, append_application, append_domain, append_metadata, append_own_info,
     append_protocol, append_remove, append_tombstone, write_actions,

@@ -10,47 +10,49 @@ use dk_model::{Names, Pairs, Text};
 use serde_json::{Map, Value};
 use std::alloc::Global;
 
-impl Tree for Value {
-    ghost meant = { view };
+impl<'a> Tree for &'a Value {
+    ghost use Rattle.serde_json.specs.View.{view};
 
-    fn field(&self, key: &str) -> Option<&Value> {
+    ghost meant = { λ v. view v.now };
+
+    fn field(self, key: &str) -> Option<&'a Value> {
         match self.get(key) {
             Some(Value::Null) => None,
             found => found,
         }
     }
 
-    fn is_object(&self) -> bool {
+    fn is_object(self) -> bool {
         Value::is_object(self)
     }
 
-    fn text(&self, alloc: Global) -> Result<Text, ActionFault> {
+    fn text(self, alloc: Global) -> Result<Text, ActionFault> {
         match self.as_str() {
             Some(text) => Ok(Text::from_str(alloc, text)?),
             None => Err(ActionFault::Bad),
         }
     }
 
-    fn whole(&self) -> Option<i64> {
+    fn whole(self) -> Option<i64> {
         self.as_i64()
     }
 
-    fn unsigned(&self) -> Option<u64> {
+    fn unsigned(self) -> Option<u64> {
         self.as_u64()
     }
 
-    fn flag(&self) -> Option<bool> {
+    fn flag(self) -> Option<bool> {
         self.as_bool()
     }
 
-    fn names(&self, alloc: Global) -> Result<Names, ActionFault> {
+    fn names(self, alloc: Global) -> Result<Names, ActionFault> {
         match self.as_array() {
             Some(items) => read_names(alloc, items),
             None => Err(ActionFault::Bad),
         }
     }
 
-    fn pairs(&self, alloc: Global) -> Result<Pairs, ActionFault> {
+    fn pairs(self, alloc: Global) -> Result<Pairs, ActionFault> {
         match self.as_object() {
             Some(members) => read_pairs(alloc, members),
             None => Err(ActionFault::Bad),

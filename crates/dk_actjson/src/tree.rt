@@ -10,37 +10,37 @@ use crate::fault::ActionFault;
 use dk_model::{Names, Pairs, Text};
 use std::alloc::Global;
 
-/// A JSON value, as a tree that can be looked into.
-pub(crate) trait Tree: Sized {
+/// A JSON value, as a tree that can be looked into: a handle on what holds it.
+pub trait Tree: Copy {
     /// The value as data.
     ghost meant: { Self → Data };
 
     /// The member of that name, where it is there and not null.
-    fn field(&self, key: &str) -> Option<&Self>
-        ensures { option_map (λ v. meant v.now) result ≡ field_of key.now (meant self.now) };
+    fn field(self, key: &str) -> Option<Self>
+        ensures { option_map meant result ≡ field_of key.now (meant self) };
 
-    fn is_object(&self) -> bool
-        ensures { result ≡ is_some (as_object (meant self.now)) };
+    fn is_object(self) -> bool
+        ensures { result ≡ is_some (as_object (meant self)) };
 
-    fn text(&self, alloc: Global) -> Result<Text, ActionFault>
-        ensures { Gives result (text (meant self.now)) };
+    fn text(self, alloc: Global) -> Result<Text, ActionFault>
+        ensures { Gives result (text (meant self)) };
 
     /// A whole number in the range of `i64`.
-    fn whole(&self) -> Option<i64>
-        ensures { result ≡ whole (meant self.now) };
+    fn whole(self) -> Option<i64>
+        ensures { result ≡ whole (meant self) };
 
     /// A whole number in the range of `u64`.
-    fn unsigned(&self) -> Option<u64>
-        ensures { result ≡ option_and_then as_u64 (as_number (meant self.now)) };
+    fn unsigned(self) -> Option<u64>
+        ensures { result ≡ option_and_then as_u64 (as_number (meant self)) };
 
-    fn flag(&self) -> Option<bool>
-        ensures { result ≡ flag (meant self.now) };
+    fn flag(self) -> Option<bool>
+        ensures { result ≡ flag (meant self) };
 
     /// A list of texts.
-    fn names(&self, alloc: Global) -> Result<Names, ActionFault>
-        ensures { Gives result (names (meant self.now)) };
+    fn names(self, alloc: Global) -> Result<Names, ActionFault>
+        ensures { Gives result (names (meant self)) };
 
     /// A map of texts.
-    fn pairs(&self, alloc: Global) -> Result<Pairs, ActionFault>
-        ensures { Gives result (pairs (meant self.now)) };
+    fn pairs(self, alloc: Global) -> Result<Pairs, ActionFault>
+        ensures { Gives result (pairs (meant self)) };
 }

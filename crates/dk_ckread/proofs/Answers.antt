@@ -8,7 +8,10 @@ use Rattle.dk_engine.specs.Answers.{GivesBy}
 use Rattle.dk_engine.specs.declared.refusal.Refusal.{Refusal}
 use Rattle.dk_engine.specs.declared.refusal.Refusal.TheVariants as refusals
 use Rattle.dk_lawful.specs.CheckpointSchema.{read_fields}
-use Rattle.dk_ckread.specs.Reading.{FileAnswers, RowsAnswer, ObjectAnswers}
+use Rattle.dk_pqmodel.specs.Reads.{Reads}
+use Rattle.dk_pqmodel.specs.declared.fault.PqFault.{PqFault}
+use Rattle.dk_pqmodel.specs.declared.fault.PqFault.TheVariants as faults
+use Rattle.dk_ckread.specs.Reading.{FileRefused, refusal_by, FileAnswers, RowsAnswer, ObjectAnswers}
 
 -- a refusal of a part, where the whole hands it on
 pub refused_by : {X Y Z W : Type 0} (view : X → Y) (other : Z → W) (Part : Result Y Refusal → Type 0) (Whole : Result W Refusal → Type 0)
@@ -29,3 +32,21 @@ pub rows_answer : {Z : Type 0} (view : Z → List Action) (path bytes : List ℕ
 rows_answer view path bytes rows (Ok z) means answer = (record { rows = rows; means = means; read = answer.0 }, answer.1)
 rows_answer view path bytes rows (Err refusal) means answer =
     refused_by view view (RowsAnswer path rows) (ObjectAnswers path bytes) (λ r given. inr (rows, means, given)) refusal answer
+
+-- what reading a file says of a fault, as a refusal of the object
+pub file_answers : {X : Type 0} (view : X → Cells) (path bytes : List ℕ) (fault : PqFault) → Reads read_fields bytes (Err fault) → GivesBy view (Err (refusal_by path fault)) (FileAnswers path bytes)
+file_answers view path bytes faults.OutOfMemory reads = tt
+file_answers view path bytes faults.Broken reads = (faults.Broken, reads, refl)
+file_answers view path bytes faults.NotParquet reads = (faults.NotParquet, reads, refl)
+file_answers view path bytes (faults.Shape column) reads = (faults.Shape column, reads, refl)
+file_answers view path bytes (faults.Compressed column codec) reads = (faults.Compressed column codec, reads, refl)
+file_answers view path bytes (faults.Encoding column code) reads = (faults.Encoding column code, reads, refl)
+
+-- and back
+pub reads_so : (bytes : List ℕ) (fault : PqFault) → FileRefused bytes fault → Reads read_fields bytes (Err fault)
+reads_so bytes faults.OutOfMemory refused = absurd refused
+reads_so bytes faults.Broken refused = refused
+reads_so bytes faults.NotParquet refused = refused
+reads_so bytes (faults.Shape column) refused = refused
+reads_so bytes (faults.Compressed column codec) refused = refused
+reads_so bytes (faults.Encoding column code) refused = refused

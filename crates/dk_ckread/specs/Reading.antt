@@ -22,8 +22,9 @@ use Rattle.dk_ckread.specs.Names.{codec_name, encoding_name}
 
 -- ---- why a file gives no rows
 
--- the file is refused by this fault, which is the first that applies
+-- the file is refused by this fault, which is the first that applies; want of memory is none of the file's
 abbrev pub FileRefused : List ℕ → PqFault → Type 0
+FileRefused bytes faults.OutOfMemory = ⊥
 FileRefused bytes faults.Broken = IsBroken read_fields bytes
 FileRefused bytes fault = IsRefused read_fields bytes fault
 

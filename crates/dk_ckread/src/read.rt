@@ -18,6 +18,7 @@ use dk_store::{Store, StoreError};
 use std::alloc::Global;
 
 /// The rows of a file at the path, of the fields that are read of checkpoints.
+#[tactic(auto, using(crate::proofs::Answers::file_answers))]
 fn read_rows(
     alloc: Global,
     parquet: &mut dyn ParquetHandler,

@@ -4,6 +4,7 @@ pub mod History
 pub mod Pieces
 pub mod Shown
 pub mod ShownHistory
+pub mod OpenedReads
 pub mod Inputs
 pub mod Scans
 pub mod Versions

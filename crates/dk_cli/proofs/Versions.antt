@@ -6,7 +6,7 @@ use Rattle.std.specs.Str.{all_ascii_digits}
 use Rattle.std.specs.Str.Parse.{digits_value, digits_value_after, ParsesUnsigned}
 use Rattle.std.proofs.lemmas.Bool.{and_parts, ltb-true}
 use Rattle.std.proofs.lemmas.Str.Parse.{IsNumeralModel, numerals_by_fold, parse_digits}
-use Rattle.dk_cli.specs.Words.{is_short, version_of}
+use Rattle.dk_cli.specs.Words.{is_short, version_spelled}
 
 own : IsNumeralModel (λ ds. all_ascii_digits ds ≡ true) (digits_value 10)
 own = numerals_by_fold _ (search rules) (digits_value_after 10) (search rules)
@@ -18,7 +18,7 @@ no_version false small value is = refl
 
 -- what `parse` refuses is no version
 pub refused : {E : Type 0} (word : List ℕ) (result : Result ℕ E) (e : E) → result ≡ Err e → ParsesUnsigned 64 10 word result → is_short word ≡ true → all_ascii_digits word ≡ true
-    → version_of word ≡ None
+    → version_spelled word ≡ None
 refused word result e is parses short digits =
     no_version (is_short word && all_ascii_digits word) (nat_lt (digits_value 10 word) (2 ^ 63)) (digits_value 10 word) (by (nat_lt (digits_value 10 word) (2 ^ 63)) refl)
   where

@@ -18,14 +18,14 @@ use Rattle.dk_cli.specs.declared.status.Status.{Status}
 use Rattle.dk_cli.specs.declared.status.Status.TheVariants as statuses
 
 -- Done, with this text given to the sink; or a fault by its cause, or want of memory.
-abbrev pub Shows : List ℕ → Option (List ℕ) → Status → Option (List ℕ) → Type 0
-Shows text old statuses.Done new = new ≡ more old text
-Shows text old statuses.SinkFault new = (count : ℕ) × (new ≡ more old (take count text))
-Shows text old (statuses.Refused refusals.Store) new = new ≡ old
-Shows text old (statuses.Refused refusals.OutOfMemory) new = new ≡ old
-Shows text old (statuses.Refused refusal) new = ⊥
-Shows text old statuses.Usage new = ⊥
-Shows text old statuses.SourceFault new = ⊥
+abbrev pub ShowsText : List ℕ → Option (List ℕ) → Status → Option (List ℕ) → Type 0
+ShowsText text old statuses.Done new = new ≡ more old text
+ShowsText text old statuses.SinkFault new = (count : ℕ) × (new ≡ more old (take count text))
+ShowsText text old (statuses.Refused refusals.Store) new = new ≡ old
+ShowsText text old (statuses.Refused refusals.OutOfMemory) new = new ≡ old
+ShowsText text old (statuses.Refused refusal) new = ⊥
+ShowsText text old statuses.Usage new = ⊥
+ShowsText text old statuses.SourceFault new = ⊥
 
 -- neither a checkpoint's object nor a compacted file
 abbrev pub IsNoSum : LogName → Type 0
@@ -44,4 +44,4 @@ pub record IsReadByCommits (events : List Told) (choice : Choice) : Type 0 where
 abbrev pub ShowsLog : List Told → Limits → Option ℕ → Choice → ℤ → Option (List ℕ) → Status → Option (List ℕ) → Type 0
 ShowsLog events limits at choice now old status new =
     (log : List (List Action)) (version : ℕ) (kept : ℤ) → IsLog events log → EndsWith events (length log) → IsReadByCommits events choice → AreWithin limits.object events → AsksFor at log version
-    → IsRead (fold (take (version + 1) log)) kept → Shows (shown version (fold (take (version + 1) log)) (cut_before now kept)) old status new
+    → IsRead (fold (take (version + 1) log)) kept → ShowsText (shown version (fold (take (version + 1) log)) (cut_before now kept)) old status new

@@ -1,6 +1,7 @@
 -- The limits on the input, and which of them its bytes pass first.
 use Rattle.std.specs.Prelude.{ℕ, zero, suc, ◌+◌, ◌==◌, not, nat_lt, if◌then◌else◌, List, length, take, reverse, Option, Some, None}
 use Rattle.std.specs.List.{count_by, take_while}
+use Rattle.std.specs.Option.{option_or}
 use Rattle.dk_engine.specs.declared.limits.Limits.{Limits}
 use Rattle.dk_engine.specs.declared.limits.Which.{Which}
 use Rattle.dk_engine.specs.declared.limits.Which.TheVariants.{Input, InputLine, InputLines}
@@ -21,14 +22,10 @@ passed limits bytes =
     else if nat_lt limits.lines (lines_begun bytes) then Some InputLines
     else None
 
-abbrev pub or_else : Option Which → Option Which → Option Which
-or_else (Some which) later = Some which
-or_else None later = later
-
 -- the limit that the shortest beginning passes, of those with more than `size` bytes and at most `count` more
 abbrev pub first_passed_from : Limits → ℕ → ℕ → List ℕ → Option Which
 first_passed_from limits size zero bytes = None
-first_passed_from limits size (suc count) bytes = or_else (passed limits (take (suc size) bytes)) (first_passed_from limits (suc size) count bytes)
+first_passed_from limits size (suc count) bytes = option_or (passed limits (take (suc size) bytes)) (first_passed_from limits (suc size) count bytes)
 
 -- the limit that the bytes pass first, byte by byte
 abbrev pub first_passed : Limits → List ℕ → Option Which

@@ -1,5 +1,5 @@
 -- What the program's answer owes to the meaning of its command.
-use Rattle.std.specs.Prelude.{ℕ, ℤ, ◌≡◌, Bool, true, false, List, Option, Some, None, Result, Ok, take, String}
+use Rattle.std.specs.Prelude.{ℕ, ℤ, ◌≡◌, Bool, true, false, List, Option, Some, None, Result, Ok, Err, take, String}
 use Rattle.std.specs.Global.{Global}
 use Rattle.dk_store.specs.Stream.{more}
 use Rattle.dk_cli.specs.Words.{words_of, command_of}
@@ -8,7 +8,7 @@ use Rattle.dk_cli.specs.declared.words.Command.TheVariants as commands
 use Rattle.dk_cli.specs.declared.status.Status.{Status}
 use Rattle.dk_cli.specs.declared.status.Status.TheVariants as statuses
 use Rattle.dk_engine.specs.declared.refusal.Refusal.{Refusal}
-use Rattle.dk_engine.specs.Answers.{Refuses}
+use Rattle.dk_engine.specs.Answers.{GivesBy}
 
 -- the command that the words ask for, if they ask for one
 abbrev pub asked : List (String Global) → Option Command
@@ -35,8 +35,8 @@ abbrev pub cut_for : Option Command → Option ℤ
 cut_for command = None
 
 -- the words ask for a command that only reads the log, or for none
-abbrev pub OnlyReads : List (String Global) → Type 0
-OnlyReads words = writes_log (asked words) ≡ false
+abbrev pub AsksToRead : List (String Global) → Type 0
+AsksToRead words = writes_log (asked words) ≡ false
 
 -- the words ask for a command that leaves the input, or for none
 abbrev pub LeavesInput : List (String Global) → Type 0
@@ -48,10 +48,10 @@ TakesInput words = takes_input (asked words) ≡ true
 
 -- ---- `show`
 
--- With Done the sink took the text that is meant, with SinkFault a beginning of it; a refusal is the meaning's, and then nothing was written.
-abbrev pub Answers : Result (List ℕ) Refusal → Option (List ℕ) → Status → Option (List ℕ) → Type 0
-Answers meant old statuses.Done new = (text : List ℕ) × (meant ≡ Ok text) × (new ≡ more old text)
-Answers meant old statuses.SinkFault new = (text : List ℕ) × (count : ℕ) × (meant ≡ Ok text) × (new ≡ more old (take count text))
-Answers meant old (statuses.Refused refusal) new = Refuses refusal meant × (new ≡ old)
-Answers meant old statuses.Usage new = ⊥
-Answers meant old statuses.SourceFault new = ⊥
+-- With Done the sink took a text that is meant, with SinkFault a beginning of one; a refusal is the meaning's, and then nothing was written.
+abbrev pub AnswersText : (Result (List ℕ) Refusal → Type 0) → Option (List ℕ) → Status → Option (List ℕ) → Type 0
+AnswersText Means old statuses.Done new = (text : List ℕ) × Means (Ok text) × (new ≡ more old text)
+AnswersText Means old statuses.SinkFault new = (text : List ℕ) × (count : ℕ) × Means (Ok text) × (new ≡ more old (take count text))
+AnswersText Means old (statuses.Refused refusal) new = GivesBy {X = List ℕ} (λ text. text) (Err refusal) Means × (new ≡ old)
+AnswersText Means old statuses.Usage new = ⊥
+AnswersText Means old statuses.SourceFault new = ⊥

@@ -1,11 +1,11 @@
 -- What `show` means, by the events of the store alone.
-use Rattle.std.specs.Prelude.{ℕ, ℤ, List, Option, Result, Ok, Err}
+use Rattle.std.specs.Prelude.{ℕ, ℤ, ◌≡◌, List, Option, Result, Ok, Err}
 use Rattle.dk_store.specs.Told.{Told}
 use Rattle.dk_engine.specs.declared.refusal.Refusal.{Refusal}
 use Rattle.dk_engine.specs.declared.limits.Limits.{Limits}
 use Rattle.dk_snapshot.specs.declared.table.Snapshot.{Snapshot}
 use Rattle.dk_lawful.specs.declared.segment.Choice.{Choice}
-use Rattle.dk_snapshot.specs.Opening.{opened}
+use Rattle.dk_snapshot.specs.Opens.{Opens}
 use Rattle.dk_cli.specs.Shown.{shown}
 
 -- the text of a snapshot
@@ -16,6 +16,7 @@ abbrev pub text_of_opened : Result Snapshot Refusal → Result (List ℕ) Refusa
 text_of_opened (Ok snapshot) = Ok (text_of_snapshot snapshot)
 text_of_opened (Err refusal) = Err refusal
 
--- what `show` answers over a store with these events under these limits, of the asked version or the latest one, under a choice, at a moment
-abbrev pub show : List Told → Limits → Option ℕ → Choice → ℤ → Result (List ℕ) Refusal
-show events limits at choice now = text_of_opened (opened events limits at choice now)
+-- What `show` may show over a store with these events under these limits, of the asked version or the latest one, under a choice, at a moment: the
+-- text of what the version opens as, or its refusal. It is one, as what a version opens as is one.
+abbrev pub ShowsAs : List Told → Limits → Option ℕ → Choice → ℤ → Result (List ℕ) Refusal → Type 0
+ShowsAs events limits at choice now meant = (opens : Result Snapshot Refusal) × Opens events limits at choice now opens × (meant ≡ text_of_opened opens)

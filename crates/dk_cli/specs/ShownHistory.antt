@@ -1,12 +1,19 @@
--- What `show` answers over a lawful log, by the history of its commits (Delta Lake's PROTOCOL.md, "Delta Log Entries", "Action Reconciliation",
--- "Catalog-managed tables").
+-- What `show` answers over a lawful log, by the history of its commits (Delta Lake's PROTOCOL.md, "Delta Log Entries", "Checkpoints",
+-- "Action Reconciliation", "Catalog-managed tables").
 use Rattle.std.specs.Prelude.{ℕ, ℤ, ◌≡◌, ◌<◌, ◌+◌, ◌⊎◌, List, Option, Some, None, Result, Ok, take}
+use Rattle.std.specs.List.{AllByRecursion}
 use Rattle.dk_store.specs.Told.{Told}
 use Rattle.dk_store.specs.Standings.{standing}
 use Rattle.dk_store.specs.Stream.{more}
 use Rattle.dk_paths.specs.Names.{commit_path}
+use Rattle.dk_model.specs.declared.action.Action.{Action}
+use Rattle.dk_model.specs.declared.state.TableState.{TableState}
+use Rattle.dk_model.specs.State.{empty_state, steps, steps_of_all}
+use Rattle.dk_lawful.specs.Agree.{Agree}
 use Rattle.dk_lawful.specs.declared.segment.Choice.{Choice}
+use Rattle.dk_lawful.specs.declared.segment.Segment.{Segment}
 use Rattle.dk_lawful.specs.declared.segment.Step.{Step}
+use Rattle.dk_lawful.specs.declared.segment.Step.TheVariants as step_kinds
 use Rattle.dk_lawful.specs.History.{next_version, table_at}
 use Rattle.dk_lawful.specs.Lawful.{Lawful}
 use Rattle.dk_lawful.specs.Segments.{commit_gap}
@@ -15,9 +22,10 @@ use Rattle.dk_engine.specs.declared.limits.Limits.{Limits}
 use Rattle.dk_engine.specs.declared.limits.Which.TheVariants.{Object}
 use Rattle.dk_engine.specs.declared.refusal.Refusal.{Refusal}
 use Rattle.dk_engine.specs.declared.refusal.Refusal.TheVariants as refusals
-use Rattle.dk_snapshot.specs.LawfulOpens.{AsksVersion, IsKeptBy, segment_by, HasCut, RefusesTable, AreWithinLimit, IsNewestOver}
-use Rattle.dk_snapshot.specs.Steps.{oldest_path}
-use Rattle.dk_snapshot.specs.Support.{cut_of}
+use Rattle.dk_snapshot.specs.LawfulOpens.{AsksVersion, IsKeptBy, segment_by, RefusesTable, AreWithinLimit, IsNewestOver}
+use Rattle.dk_snapshot.specs.Opens.{BaseIsRead}
+use Rattle.dk_snapshot.specs.Steps.{commits_of}
+use Rattle.dk_snapshot.specs.Support.{IsRead, cut_before}
 use Rattle.dk_cli.specs.Shown.{shown}
 use Rattle.dk_cli.specs.declared.status.Status.{Status}
 use Rattle.dk_cli.specs.declared.status.Status.TheVariants as statuses
@@ -37,27 +45,42 @@ abbrev pub AsksAbove : List Told → Option ℕ → ℕ → Type 0
 AsksAbove events None last = ⊥
 AsksAbove events (Some asked) last = (last + 1 ≡ next_version events) × (last < asked)
 
--- the objects that it is read from
-abbrev pub steps_of : List Told → Choice → ℕ → List Step
-steps_of events choice version = (segment_by events version choice).steps
+-- ---- the state
 
--- the cut of its state at a moment, or why it isn't opened
-abbrev pub cut_at : List Told → Choice → ℕ → ℤ → Result ℤ Refusal
-cut_at events choice version now = cut_of (oldest_path (steps_of events choice version)) (table_at events version) now
+-- the state that the objects of a segment make up: the actions of its checkpoint first, and then its commits
+abbrev pub IsFoldOf : List Told → Limits → Segment → TableState → Type 0
+IsFoldOf events limits segment state = (base : List Action) × (commits : List (List Action)) × BaseIsRead events limits segment.base (Ok base)
+    × (commits_of events limits.object segment.steps ≡ Ok commits) × (state ≡ steps_of_all (steps empty_state base) commits)
+
+abbrev pub IsCommitStep : Step → Type 0
+IsCommitStep (step_kinds.Commit version path) = Unit {0}
+IsCommitStep (step_kinds.Compacted first last path) = ⊥
+
+-- the segment is made of commits alone
+pub record IsOfCommits (segment : Segment) : Type 0 where
+  pub no_base : segment.base ≡ None
+  pub commits : AllByRecursion IsCommitStep segment.steps
+
+-- the table of the state is one that is read, and removed files are told from this moment on
+abbrev pub IsReadFrom : TableState → ℤ → ℤ → Type 0
+IsReadFrom state now cut = (kept : ℤ) × IsRead state kept × (cut ≡ cut_before now kept)
 
 -- ---- the text
 
--- The text of this version: it is asked for and kept, none of its objects is over the limit, and the table is one that is read. Its state is that of
--- the history's commits up to it, and its removed files are told from the moment of the call on, less the time that the table keeps them.
-pub record IsTextOf (events : List Told) (limits : Limits) (at : Option ℕ) (choice : Choice) (now : ℤ) (version : ℕ) (cut : ℤ) (text : List ℕ) : Type 0 where
+-- The text of this version: it is asked for and kept, none of its objects is over the limit, and the table is one that is read. Its state is what
+-- those objects make up. That is the state of the history's commits up to it, but that tombstones may lack whose time isn't above the horizon; read
+-- from commits alone it is exactly that. Its removed files are told from the moment of the call on, less the time that the table keeps them.
+pub record IsTextOf (events : List Told) (horizon : ℤ) (limits : Limits) (at : Option ℕ) (choice : Choice) (now : ℤ) (version : ℕ) (state : TableState) (cut : ℤ) (text : List ℕ) : Type 0 where
   pub asked : AsksKept events at choice version
-  pub within : AreWithinLimit events limits.object (steps_of events choice version)
-  pub read : cut_at events choice version now ≡ Ok cut
-  pub has_cut : HasCut (table_at events version).metadata now cut
-  pub is_text : text ≡ shown version (table_at events version) cut
+  pub within : AreWithinLimit events limits.object (segment_by events version choice).steps
+  pub folds : IsFoldOf events limits (segment_by events version choice) state
+  pub agrees : Agree state (table_at events version) horizon
+  pub exact : IsOfCommits (segment_by events version choice) → state ≡ table_at events version
+  pub read : IsReadFrom state now cut
+  pub is_text : text ≡ shown version state cut
 
-abbrev pub HasText : List Told → Limits → Option ℕ → Choice → ℤ → List ℕ → Type 0
-HasText events limits at choice now text = (version : ℕ) × (cut : ℤ) × IsTextOf events limits at choice now version cut text
+abbrev pub HasText : List Told → ℤ → Limits → Option ℕ → Choice → ℤ → List ℕ → Type 0
+HasText events horizon limits at choice now text = (version : ℕ) × (state : TableState) × (cut : ℤ) × IsTextOf events horizon limits at choice now version state cut text
 
 -- ---- the refusals
 
@@ -67,9 +90,10 @@ HasText events limits at choice now text = (version : ℕ) × (cut : ℤ) × IsT
 abbrev pub HasNoText : List Told → Limits → Option ℕ → Choice → ℤ → Refusal → Type 0
 HasNoText events limits at choice now (refusals.Missing path) = ((version : ℕ) × AsksGap events at choice path version) ⊎ ((next_version events ≡ 0) × (path ≡ commit_path 0))
 HasNoText events limits at choice now (refusals.NoVersion last) = AsksAbove events at last
-HasNoText events limits at choice now (refusals.Limit Object size) = (version : ℕ) × AsksKept events at choice version × IsNewestOver events limits.object (steps_of events choice version) size
+HasNoText events limits at choice now (refusals.Limit Object size) =
+    (version : ℕ) × AsksKept events at choice version × IsNewestOver events limits.object (segment_by events version choice).steps size
 HasNoText events limits at choice now (refusals.Unsupported name) =
-    (version : ℕ) × AsksKept events at choice version × AreWithinLimit events limits.object (steps_of events choice version) × RefusesTable name (table_at events version)
+    (version : ℕ) × AsksKept events at choice version × AreWithinLimit events limits.object (segment_by events version choice).steps × RefusesTable name (table_at events version)
 HasNoText events limits at choice now refusals.Store = Unit {0}
 HasNoText events limits at choice now refusals.OutOfMemory = Unit {0}
 HasNoText events limits at choice now _ = ⊥
@@ -78,13 +102,14 @@ HasNoText events limits at choice now _ = ⊥
 
 -- With Done the sink took the text, with SinkFault a beginning of it; with a refusal there is none, and nothing was written. A text and the causes of
 -- refusals exclude each other, so that, but for a fault of the store or the sink and want of memory, each status comes exactly where its case holds.
-abbrev pub AnswersShown : List Told → Limits → Option ℕ → Choice → ℤ → Option (List ℕ) → Status → Option (List ℕ) → Type 0
-AnswersShown events limits at choice now old statuses.Done new = (text : List ℕ) × HasText events limits at choice now text × (new ≡ more old text)
-AnswersShown events limits at choice now old statuses.SinkFault new = (text : List ℕ) × (count : ℕ) × HasText events limits at choice now text × (new ≡ more old (take count text))
-AnswersShown events limits at choice now old (statuses.Refused refusal) new = HasNoText events limits at choice now refusal × (new ≡ old)
-AnswersShown events limits at choice now old statuses.Usage new = ⊥
-AnswersShown events limits at choice now old statuses.SourceFault new = ⊥
+abbrev pub AnswersShown : List Told → ℤ → Limits → Option ℕ → Choice → ℤ → Option (List ℕ) → Status → Option (List ℕ) → Type 0
+AnswersShown events horizon limits at choice now old statuses.Done new = (text : List ℕ) × HasText events horizon limits at choice now text × (new ≡ more old text)
+AnswersShown events horizon limits at choice now old statuses.SinkFault new =
+    (text : List ℕ) × (count : ℕ) × HasText events horizon limits at choice now text × (new ≡ more old (take count text))
+AnswersShown events horizon limits at choice now old (statuses.Refused refusal) new = HasNoText events limits at choice now refusal × (new ≡ old)
+AnswersShown events horizon limits at choice now old statuses.Usage new = ⊥
+AnswersShown events horizon limits at choice now old statuses.SourceFault new = ⊥
 
--- what `show` owes over a lawful log, whatever its horizon
+-- what `show` owes over a lawful log, at each of its horizons
 abbrev pub ShowsHistory : List Told → Limits → Option ℕ → Choice → ℤ → Option (List ℕ) → Status → Option (List ℕ) → Type 0
-ShowsHistory events limits at choice now old status new = (horizon : ℤ) → Lawful events horizon → AnswersShown events limits at choice now old status new
+ShowsHistory events limits at choice now old status new = (horizon : ℤ) → Lawful events horizon → AnswersShown events horizon limits at choice now old status new

@@ -12,8 +12,8 @@ ghost use Rattle.dk_cli.specs.declared.words.Command.TheVariants as commands;
 ghost use Rattle.dk_cli.specs.Commit.{CommitAnswers, InputFirst, InputSays, InputTransacts, SaysOnce};
 ghost use Rattle.dk_cli.specs.Effects.{PutsInStore, ReadsStore, TakesFromSource, WritesToSink};
 ghost use Rattle.dk_cli.specs.Endings.{MayEnd, ShowMayEnd};
-ghost use Rattle.dk_cli.specs.Show.{show};
-ghost use Rattle.dk_cli.specs.Run.{Answers, Asks, LeavesInput, OnlyReads, TakesInput, asked, cut_for};
+ghost use Rattle.dk_cli.specs.Show.{ShowsAs};
+ghost use Rattle.dk_cli.specs.Run.{AnswersText, Asks, AsksToRead, LeavesInput, TakesInput, asked, cut_for};
 ghost use Rattle.dk_cli.specs.History.{ShowsLog};
 ghost use Rattle.dk_cli.specs.ShownHistory.{ShowsHistory};
 
@@ -38,7 +38,7 @@ fn show_command<O: Sink>(
     ensures reads { ReadsStore (seen (held engine.old.store)) (seen (held engine.new.store)) result }
     ensures writes { WritesToSink (O.sink_seen out.old) (O.sink_seen out.new) result }
     ensures ends { ShowMayEnd at result }
-    ensures answer { IfTold (seen (held engine.old.store)) (λ events. Answers (show events engine.old.limits at choice.now now) (O.sink_seen out.old).taken result (O.sink_seen out.new).taken) }
+    ensures answer { IfTold (seen (held engine.old.store)) (λ events. AnswersText (ShowsAs events engine.old.limits at choice.now now) (O.sink_seen out.old).taken result (O.sink_seen out.new).taken) }
     ensures lawful { KeepsLawful (seen (held engine.old.store)).told (seen (held engine.new.store)).told }
     ensures limits { engine.new.limits ≡ engine.old.limits }
 {
@@ -63,9 +63,11 @@ fn show_command<O: Sink>(
 /// subject's own words: over a log of commit files 0 to n, where no later version stands ratified, neither a checkpoint nor a
 /// compacted file is listed and no commit is over the limit of objects, and whose version at hand is one that is read, the sink
 /// took exactly the text of that version as the fold of the commits up to it gives it. `show` says the
-/// same of every log, and with it exactly when each refusal comes. `shows_history` says it of each lawful log by its history:
-/// what is shown is the asked version of the history, or its last one, with exactly the state that the history's commits up to
-/// it lead to; and a refusal says that a commit which the version needs is missing, that the version is above the last one,
+/// same of every log, by what the version opens as, and with it exactly when each refusal comes. `shows_history` says it of each
+/// lawful log by its history: what is shown is the asked version of the history, or its last one, with the state that the
+/// objects make up which it is read from. That is the state that the history's commits up to it lead to, but that removed files
+/// may lack whose time isn't above the log's horizon; read from commits alone it is exactly that state. A refusal says that a
+/// commit which the version needs is missing, that the version is above the last one,
 /// that an object is over the limit, or what the table asks for that isn't read, and so is never `Damaged`. `commit` says
 /// which one event a commit adds, and exactly when each refusal comes. `lawful` is the promise on the log: whatever the
 /// command and its end, what was lawful stays so. `history` is the promise on `commit` in the subject's own words: with Done
@@ -83,7 +85,7 @@ pub fn run<I: Source, O: Sink>(
     ensures usage { (result ≡ Status.Usage) ↔ (asked words.now ≡ None) }
     ensures ends { MayEnd (asked words.now) result }
     ensures show { (at : Option ℕ) (choice : Choice) → Asks words.now (commands.Show at choice) → IfTold (seen (held engine.old.store))
-        (λ events. Answers (show events engine.old.limits at choice now) (O.sink_seen out.old).taken result (O.sink_seen out.new).taken) }
+        (λ events. AnswersText (ShowsAs events engine.old.limits at choice now) (O.sink_seen out.old).taken result (O.sink_seen out.new).taken) }
     ensures whole_log { (at : Option ℕ) (choice : Choice) → Asks words.now (commands.Show at choice) → IfTold (seen (held engine.old.store))
         (λ events. ShowsLog events engine.old.limits at choice now (O.sink_seen out.old).taken result (O.sink_seen out.new).taken) }
     ensures shows_history { (at : Option ℕ) (choice : Choice) → Asks words.now (commands.Show at choice) → IfTold (seen (held engine.old.store))
@@ -99,7 +101,7 @@ pub fn run<I: Source, O: Sink>(
     ensures once { (reads : Reads) → Asks words.now (commands.Commit reads) → IfBoth (seen (held engine.old.store)).told (seen (held engine.new.store)).told (SaysOnce base result) }
 
     // What it touches, and what stays as it was.
-    ensures reads { OnlyReads words.now → ReadsStore (seen (held engine.old.store)) (seen (held engine.new.store)) result }
+    ensures reads { AsksToRead words.now → ReadsStore (seen (held engine.old.store)) (seen (held engine.new.store)) result }
     ensures puts { PutsInStore (seen (held engine.old.store)) (seen (held engine.new.store)) result }
     ensures takes { TakesInput words.now → TakesFromSource (engine.old.limits.input + 1) (I.source_seen input.old) (I.source_seen input.new) result }
     ensures unread { LeavesInput words.now → input.new ≡ input.old }

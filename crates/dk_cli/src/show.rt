@@ -1,12 +1,12 @@
 //! The command `show`: a version of the table, as text.
 ghost use Rattle.std.specs.Prelude.{◌≡◌, IfErr, IfOk};
 ghost use Rattle.dk_store.specs.Seen.{IfTold};
-ghost use Rattle.dk_engine.specs.Answers.{Gives, GivesBy};
+ghost use Rattle.dk_engine.specs.Answers.{GivesBy};
 ghost use Rattle.dk_engine.specs.Effects.{OnlyReads};
 ghost use Rattle.dk_engine.specs.Held.{held};
 ghost use Rattle.dk_snapshot.specs.Opens.{Opens};
 ghost use Rattle.dk_snapshot.specs.Refusals.{OpenRefuses};
-ghost use Rattle.dk_cli.specs.Show.{show, text_of_snapshot};
+ghost use Rattle.dk_cli.specs.Show.{ShowsAs, text_of_snapshot};
 
 use crate::text::shown_text;
 use dk_engine::{Engine, Refusal};
@@ -57,7 +57,7 @@ pub(crate) fn show_text(
     ensures reads { OnlyReads (seen (held engine.old.store)) (seen (held engine.new.store)) result }
     ensures limits { engine.new.limits ≡ engine.old.limits }
     ensures refusals { IfErr result (OpenRefuses at) }
-    ensures means { IfTold (seen (held engine.old.store)) (λ events. Gives (λ text. text.items) result (show events engine.old.limits at choice.now now)) }
+    ensures means { IfTold (seen (held engine.old.store)) (λ events. GivesBy (λ text. text.items) result (ShowsAs events engine.old.limits at choice.now now)) }
 {
     match open(alloc, engine, at, choice, now) {
         Err(refusal) => Err(refusal),

@@ -2,7 +2,7 @@
 ghost use Rattle.std.specs.Prelude.{◌≡◌, option_copied, string_bytes};
 ghost use Rattle.std.specs.Str.{all_ascii_digits, bytes_eq};
 ghost use Rattle.dk_store.specs.Listing.{behind};
-ghost use Rattle.dk_cli.specs.Words.{command_of, commit_of, is_short, reads_asked, reads_named, show_of, value_of, version_asked, version_of, words_of};
+ghost use Rattle.dk_cli.specs.Words.{command_of, commit_asked, is_short, reads_asked, reads_named, show_asked, option_value, version_to_show, version_spelled, words_of};
 
 use dk_conflicts::Reads;
 use dk_lawful::Choice;
@@ -46,8 +46,8 @@ fn is_short(word: &[u8]) -> bool
 }
 
 /// A version: 1 to 19 decimal digits, from 0 to 9,223,372,036,854,775,807. Takes no memory.
-fn version_of(word: &str) -> Option<u64>
-    ensures { result ≡ version_of word.now }
+fn version_spelled(word: &str) -> Option<u64>
+    ensures { result ≡ version_spelled word.now }
 {
     if !is_short(word.as_bytes()) || !are_digits(word.as_bytes()) {
         return None;
@@ -68,8 +68,8 @@ fn behind<'a>(front: &str, text: &'a str) -> Option<&'a str>
 
 /// The value of the one option that the words give: in a word of its own behind the name, or behind the name and `=`. Takes no
 /// memory.
-fn value_of<'a>(name: &str, joined: &str, words: &'a [String]) -> Option<&'a str>
-    ensures { option_copied result ≡ value_of name.now joined.now (words_of words.now) }
+fn option_value<'a>(name: &str, joined: &str, words: &'a [String]) -> Option<&'a str>
+    ensures { option_copied result ≡ option_value name.now joined.now (words_of words.now) }
 {
     match words {
         [word] => behind(joined, word.as_str()),
@@ -79,21 +79,21 @@ fn value_of<'a>(name: &str, joined: &str, words: &'a [String]) -> Option<&'a str
 }
 
 /// The version that the options ask `show` for. Takes no memory.
-fn version_asked(options: &[String]) -> Option<Option<u64>>
-    ensures { result ≡ version_asked (words_of options.now) }
+fn version_to_show(options: &[String]) -> Option<Option<u64>>
+    ensures { result ≡ version_to_show (words_of options.now) }
 {
     if options.is_empty() {
         return Some(None);
     }
-    let version = version_of(value_of("--at", "--at=", options)?)?;
+    let version = version_spelled(option_value("--at", "--at=", options)?)?;
     Some(Some(version))
 }
 
 /// `show` with these options. Takes no memory.
-fn show_of(options: &[String]) -> Option<Command>
-    ensures { result ≡ show_of (words_of options.now) }
+fn show_asked(options: &[String]) -> Option<Command>
+    ensures { result ≡ show_asked (words_of options.now) }
 {
-    let at = version_asked(options)?;
+    let at = version_to_show(options)?;
     Some(Command::Show {
         at,
         choice: usual_choice(),
@@ -118,12 +118,12 @@ fn reads_asked(options: &[String]) -> Option<Reads>
     if options.is_empty() {
         return Some(Reads::Nothing);
     }
-    reads_named(value_of("--reads", "--reads=", options)?)
+    reads_named(option_value("--reads", "--reads=", options)?)
 }
 
 /// `commit` with these options. Takes no memory.
-fn commit_of(options: &[String]) -> Option<Command>
-    ensures { result ≡ commit_of (words_of options.now) }
+fn commit_asked(options: &[String]) -> Option<Command>
+    ensures { result ≡ commit_asked (words_of options.now) }
 {
     let reads = reads_asked(options)?;
     Some(Command::Commit { reads })
@@ -134,8 +134,8 @@ pub(crate) fn command_of(words: &[String]) -> Option<Command>
     ensures { result ≡ command_of (words_of words.now) }
 {
     match words {
-        [word, options @ ..] if is_word(word, "show") => show_of(options),
-        [word, options @ ..] if is_word(word, "commit") => commit_of(options),
+        [word, options @ ..] if is_word(word, "show") => show_asked(options),
+        [word, options @ ..] if is_word(word, "commit") => commit_asked(options),
         _ => None,
     }
 }

@@ -1,5 +1,6 @@
 pub mod CompleteNames
 pub mod PartSets
+pub mod Rising
 pub mod Small
 pub mod Standing
 pub mod LatestOf

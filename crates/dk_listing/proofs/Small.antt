@@ -7,7 +7,7 @@ use Rattle.dk_store.specs.declared.event.Ratification.{Ratification}
 use Rattle.dk_paths.specs.declared.log_name.LogName.{LogName}
 use Rattle.dk_paths.specs.declared.log_name.LogName.TheVariants.{Commit, Classic, Part, V2Json, V2Parquet, Compacted, Hint, Other}
 use Rattle.dk_listing.specs.declared.named.Named.{Named}
-use Rattle.dk_listing.specs.Newest.{later, newest_by, commit_version, newest_commit, newest_ratified, complete_version, lists_part, newest_checkpoint, version_in, all_up_to}
+use Rattle.dk_listing.specs.Newest.{later, newest_by, commit_version, newest_commit, newest_ratified, complete_version, lists_part, newest_checkpoint, version_named, all_up_to}
 
 -- a version, if there is one, is below the limit
 abbrev IsBelow : ℕ → Option ℕ → Type 0
@@ -26,7 +26,7 @@ fold_small version limit best (x ∷ xs) small all = fold_small version limit (l
 newest_small : {X : Type 0} (version : X → Option ℕ) (limit : ℕ) (xs : List X) → All (λ x. IsBelow limit (version x)) xs → IsBelow limit (newest_by version xs)
 newest_small version limit xs all = fold_small version limit None xs tt (recursion_from_All (λ x. IsBelow limit (version x)) xs all)
 
-commit_small : (limit : ℕ) (name : LogName) → version_in name < limit → IsBelow limit (commit_version name)
+commit_small : (limit : ℕ) (name : LogName) → version_named name < limit → IsBelow limit (commit_version name)
 commit_small limit (Commit v) small = small
 commit_small limit (Classic v) small = tt
 commit_small limit (Part v part parts) small = tt
@@ -36,7 +36,7 @@ commit_small limit (Compacted first last) small = tt
 commit_small limit Hint small = tt
 commit_small limit Other small = tt
 
-complete_small : (has : ℕ → ℕ → ℕ → Bool) (limit : ℕ) (name : LogName) → version_in name < limit → IsBelow limit (complete_version has name)
+complete_small : (has : ℕ → ℕ → ℕ → Bool) (limit : ℕ) (name : LogName) → version_named name < limit → IsBelow limit (complete_version has name)
 complete_small has limit (Commit v) small = tt
 complete_small has limit (Classic v) small = small
 complete_small has limit (Part v part parts) small = by (part == 1 && all_up_to (has v parts) parts)
@@ -50,14 +50,14 @@ complete_small has limit (Compacted first last) small = tt
 complete_small has limit Hint small = tt
 complete_small has limit Other small = tt
 
-pub newest_commit-small : (limit : ℕ) (log : List Named) → All (λ named. version_in named.name < limit) log → IfSome (newest_commit log) (λ v. v < limit)
+pub newest_commit-small : (limit : ℕ) (log : List Named) → All (λ named. version_named named.name < limit) log → IfSome (newest_commit log) (λ v. v < limit)
 newest_commit-small limit log all =
-    newest_small (λ named. commit_version named.name) limit log (All-weaker (λ named. version_in named.name < limit) (λ named. IsBelow limit (commit_version named.name)) (λ named small. commit_small limit named.name small) log all)
+    newest_small (λ named. commit_version named.name) limit log (All-weaker (λ named. version_named named.name < limit) (λ named. IsBelow limit (commit_version named.name)) (λ named small. commit_small limit named.name small) log all)
 
-pub newest_checkpoint-small : (limit : ℕ) (log : List Named) → All (λ named. version_in named.name < limit) log → IfSome (newest_checkpoint log) (λ v. v < limit)
+pub newest_checkpoint-small : (limit : ℕ) (log : List Named) → All (λ named. version_named named.name < limit) log → IfSome (newest_checkpoint log) (λ v. v < limit)
 newest_checkpoint-small limit log all =
     newest_small (λ named. complete_version (lists_part log) named.name) limit log
-    (All-weaker (λ named. version_in named.name < limit) (λ named. IsBelow limit (complete_version (lists_part log) named.name)) (λ named small. complete_small (lists_part log) limit named.name small) log all)
+    (All-weaker (λ named. version_named named.name < limit) (λ named. IsBelow limit (complete_version (lists_part log) named.name)) (λ named small. complete_small (lists_part log) limit named.name small) log all)
 
 pub newest_ratified-small : (limit : ℕ) (ratified : List Ratification) → All (λ r. r.version < limit) ratified → IfSome (newest_ratified ratified) (λ v. v < limit)
 newest_ratified-small limit ratified all = newest_small (λ r. Some r.version) limit ratified all

@@ -1,5 +1,5 @@
 -- The greatest versions of a listing (Delta Lake's PROTOCOL.md, "Delta Log Entries", "Checkpoints").
-use Rattle.std.specs.Prelude.{ℕ, zero, suc, ◌==◌, ◌&&◌, max, Bool, true, false, Option, Some, None, is_some, List, map, if◌then◌else◌}
+use Rattle.std.specs.Prelude.{ℕ, zero, suc, ◌==◌, ◌&&◌, nat_lt, max, Bool, true, false, Option, Some, None, is_some, List, map, if◌then◌else◌}
 use Rattle.std.specs.List.{list_any, filter, fold}
 use Rattle.dk_store.specs.declared.event.Ratification.{Ratification}
 use Rattle.dk_paths.specs.declared.log_name.LogName.{LogName}
@@ -93,12 +93,17 @@ checkpoint_version Other = None
 -- ---- every name
 
 -- the version that a name begins with, or 0
-abbrev pub version_in : LogName → ℕ
-version_in (Commit version) = version
-version_in (Classic version) = version
-version_in (Part version part parts) = version
-version_in (V2Json version id) = version
-version_in (V2Parquet version id) = version
-version_in (Compacted first last) = first
-version_in Hint = 0
-version_in Other = 0
+abbrev pub version_named : LogName → ℕ
+version_named (Commit version) = version
+version_named (Classic version) = version
+version_named (Part version part parts) = version
+version_named (V2Json version id) = version
+version_named (V2Parquet version id) = version
+version_named (Compacted first last) = first
+version_named Hint = 0
+version_named Other = 0
+
+-- whether a compacted file ends at a later version than it begins with
+abbrev pub is_rising : LogName → Bool
+is_rising (Compacted first last) = nat_lt first last
+is_rising _ = true

@@ -1,6 +1,6 @@
 -- Which places a listing shows an object at, and the names under which versions stand ratified.
-use Rattle.std.specs.Prelude.{ℕ, ◌==◌, ◌&&◌, Bool, true, false, Option, Some, None, List, [], ◌∷◌, map, if◌then◌else◌}
-use Rattle.std.specs.List.{list_any}
+use Rattle.std.specs.Prelude.{ℕ, ◌==◌, ◌&&◌, Bool, true, false, Option, Some, None, List, [], ◌∷◌, ◌++◌, map, if◌then◌else◌}
+use Rattle.std.specs.List.{list_any, filter_map}
 use Rattle.dk_store.specs.Views.{ratification}
 use Rattle.dk_paths.specs.declared.log_name.LogName.{LogName}
 use Rattle.dk_paths.specs.declared.log_name.LogName.TheVariants as names
@@ -33,6 +33,21 @@ lists listing (Staged version id) = lists_staged listing.staged.items version id
 lists listing (Sidecar name) = false
 lists listing (Other path) = false
 lists listing place = lists_in_log listing.log.items place
+
+-- the place that a name of the log's folder names
+abbrev pub named_place : LogName → Option Place
+named_place (names.Commit version) = Some (Commit_at version)
+named_place (names.Classic version) = Some (Classic version)
+named_place (names.Part version part parts) = Some (Part version part parts)
+named_place (names.V2Json version id) = Some (V2 version id true)
+named_place (names.V2Parquet version id) = Some (V2 version id false)
+named_place (names.Compacted first last) = Some (Compacted first last)
+named_place names.Hint = Some Hint
+named_place names.Other = None
+
+-- the places at which an object is listed, in the log's folder and in that of staged commits
+abbrev pub listed_places : Catalogued → List Place
+listed_places listing = filter_map (λ named. named_place named.name) listing.log.items ++ map (λ s. Staged s.version s.id) listing.staged.items
 
 -- the name under which a version stands ratified, by the first ratification of it
 abbrev pub name_at : List (ℕ × List ℕ) → ℕ → Option (List ℕ)

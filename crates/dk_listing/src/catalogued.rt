@@ -1,6 +1,6 @@
 //! A listing of the log, sorted by what it says.
-ghost use Rattle.std.specs.Prelude.{◌≡◌, ◌<◌, ◌^◌, All};
-ghost use Rattle.dk_listing.specs.Newest.{complete_checkpoints, version_in};
+ghost use Rattle.std.specs.Prelude.{◌≡◌, ◌<◌, ◌^◌, All, true};
+ghost use Rattle.dk_listing.specs.Newest.{complete_checkpoints, is_rising, version_named};
 
 use crate::named::{Named, Staged};
 use crate::newest::{later, newest_commit, newest_named, newest_ratified};
@@ -18,7 +18,8 @@ pub struct Catalogued {
     pub ratified: Vec<Ratification>,
     /// Each complete checkpoint by the name that begins it.
     pub(crate) checkpoints: Vec<LogName>,
-    ghost names_small: { All (λ named. version_in named.name < 2 ^ 63) log.items },
+    ghost names_small: { All (λ named. version_named named.name < 2 ^ 63) log.items },
+    ghost names_rise: { All (λ named. is_rising named.name ≡ true) log.items },
     ghost ratified_small: { All (λ r. r.version < 2 ^ 63) ratified.items },
     ghost complete: { checkpoints.items ≡ complete_checkpoints log.items },
 }
@@ -42,6 +43,13 @@ impl Catalogued {
     {
         newest_named(self.complete_checkpoints())
     }
+
+    ghost use Rattle.dk_listing.specs.Newest.{is_rising};
+
+    /// That each compacted file of the log ends at a later version than it begins with. Does nothing when it runs.
+    pub fn note_rising(&self)
+        ensures { All (λ named. is_rising named.name ≡ true) self.now.log.items }
+    {}
 
     /// The greatest version of a commit, of a ratification that stands, or of a complete checkpoint. Takes no memory.
     pub fn latest(&self) -> Option<u64>

@@ -1,23 +1,35 @@
 //! From entries to entries with a meaning.
-ghost use Rattle.std.specs.Prelude.{◌≡◌, ◌<◌, ◌^◌, All, IfOk, map};
+ghost use Rattle.std.specs.Prelude.{◌≡◌, ◌<◌, ◌^◌, All, IfOk, map, true};
 ghost use Rattle.std.specs.List.{filter_map};
 ghost use Rattle.dk_store.specs.Views.{listed};
+ghost use Rattle.dk_paths.specs.Names.{name_of};
 ghost use Rattle.dk_listing.specs.Entries.{in_log, in_staged, named_entry, staged_entry};
-ghost use Rattle.dk_listing.specs.Newest.{version_in};
+ghost use Rattle.dk_listing.specs.Newest.{is_rising, version_named};
 
 use crate::named::{Named, Staged};
-use dk_paths::{read_name, read_staged};
+use dk_paths::{LogName, read_name, read_staged};
 use dk_store::Entry;
 use std::alloc::{AllocError, Global};
+
+/// What a name means, whose numbers it may have.
+#[tactic(auto, using(crate::proofs::Rising::name_rises))]
+fn read_rising(text: &str) -> LogName
+    ensures named { result ≡ name_of text.now }
+    ensures small { version_named result < 2 ^ 63 }
+    ensures rising { is_rising result ≡ true }
+{
+    read_name(text)
+}
 
 /// The entries of the log's folder, each with what its name means.
 pub(crate) fn read_log_names(alloc: Global, entries: Vec<Entry>) -> Result<Vec<Named>, AllocError>
     ensures named { IfOk result (λ found. map named_entry found.items ≡ map in_log (map listed entries.items)) }
-    ensures small { IfOk result (λ found. All (λ named. version_in named.name < 2 ^ 63) found.items) }
+    ensures small { IfOk result (λ found. All (λ named. version_named named.name < 2 ^ 63) found.items) }
+    ensures rising { IfOk result (λ found. All (λ named. is_rising named.name ≡ true) found.items) }
 {
     let mut found = Vec::new(alloc);
     for entry in entries {
-        let name = read_name(entry.name.as_str());
+        let name = read_rising(entry.name.as_str());
         found.push(Named { name, entry })?;
     }
     Ok(found)

@@ -14,4 +14,5 @@ mod sorting;
 
 pub use catalogued::Catalogued;
 pub use named::{Named, Staged};
+pub use newest::{checkpoint_version, later};
 pub use sorting::group;

@@ -6,8 +6,8 @@ use crate::named::Named;
 use dk_paths::LogName;
 use dk_store::Ratification;
 
-/// The greater of two versions that may be absent.
-pub(crate) fn later(one: Option<u64>, other: Option<u64>) -> Option<u64>
+/// The greater of two versions that may be absent. Takes no memory.
+pub fn later(one: Option<u64>, other: Option<u64>) -> Option<u64>
     ensures { result ≡ newest.later one other }
 {
     match (one, other) {
@@ -26,7 +26,9 @@ fn commit_version(name: &LogName) -> Option<u64>
     }
 }
 
-fn checkpoint_version(name: &LogName) -> Option<u64>
+/// The version of a checkpoint, by the name of its object, or of one of them (Delta Lake's PROTOCOL.md, "Checkpoints"); None
+/// where the name is of no checkpoint. Takes no memory.
+pub fn checkpoint_version(name: &LogName) -> Option<u64>
     ensures { result ≡ newest.checkpoint_version name.now }
 {
     match *name {

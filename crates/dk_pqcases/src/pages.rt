@@ -2,6 +2,7 @@
 
 use anyhow::{Context, Result};
 use dk_pages::{Dictionary, PageView, Physical, next_page};
+use dk_pqmodel::PageKind;
 use std::alloc::{AllocError, Global};
 
 /// What the header of the page at a place says, where its body ends, and how long it is.

@@ -24,12 +24,8 @@ use Rattle.dk_pqread.proofs.PartLaws.{some_is, some_bound, cut_given, cut_found,
 
 -- ---- codes of values
 
-int32_fits : (o : Option ℤ) → option_and_then fits32 o ≡ int32 o
-int32_fits None = refl
-int32_fits (Some z) = refl
-
 -- a code that is read is a number of 32 bits
-coded : (column : ColumnAt) (dictionary : Option (List Value)) (code : ℤ) (values : List Value) (bytes : List ℕ) → HoldValues column dictionary code values bytes → int32 (Some code) ≡ Some code
+coded : (column : ColumnAt) (dictionary : Option (List Value)) (code : ℤ) (values : List Value) (bytes : List ℕ) → HoldValues column dictionary code values bytes → option_and_then fits32 (Some code) ≡ Some code
 coded column dictionary code values bytes (inl h) = rw h.0 refl
 coded column dictionary code values bytes (inr (inl h)) = rw h.0 refl
 coded column dictionary code values bytes (inr (inr (inl e, h))) = rw e refl
@@ -115,8 +111,8 @@ module _ (column : ColumnAt) (dictionary : Option (List Value)) (parts : Listed 
         fits = subst (λ n. n < 2 ^ 31) (sym held.count) count.1;
         code = page.encoding;
         encoding = int32_some (last_under (pos 2) (inner_under (pos 5) parts)) page.encoding says.encoding;
-        def_code = (page.def_code, int32_fits (last_under (pos 3) (inner_under (pos 5) parts)) ∙ says.def_code, code_is column.def page.def_code held.def_code);
-        rep_code = (page.rep_code, int32_fits (last_under (pos 4) (inner_under (pos 5) parts)) ∙ says.rep_code, code_is column.rep page.rep_code held.rep_code);
+        def_code = (page.def_code, says.def_code, code_is column.def page.def_code held.def_code);
+        rep_code = (page.rep_code, says.rep_code, code_is column.rep page.rep_code held.rep_code);
         rep_part = first.0;
         def_part = second.0;
         values = y.0.1;
@@ -205,9 +201,9 @@ module _ (column : ColumnAt) (dictionary : Option (List Value)) (bytes front par
         type = d.page.kind;
         size = is_natural (last_under (pos 3) (numbers_in d.parts)) (length d.body) d.page.size d.page.fits;
         values = is_natural (last_under (pos 1) inner) (length triples) d.count d.fits;
-        encoding = ap int32 d.encoding ∙ coded column dictionary d.code (filter_map (λ (e : Triple). e.value) triples) d.values d.triples_held.held;
-        def_code = sym (int32_fits (last_under (pos 3) inner)) ∙ d.def_code.1;
-        rep_code = sym (int32_fits (last_under (pos 4) inner)) ∙ d.rep_code.1;
+        encoding = ap (option_and_then fits32) d.encoding ∙ coded column dictionary d.code (filter_map (λ (e : Triple). e.value) triples) d.values d.triples_held.held;
+        def_code = d.def_code.1;
+        rep_code = d.rep_code.1;
         kind = refl;
         held = refl;
       } in
@@ -240,7 +236,7 @@ module _ (column : ColumnAt) (dictionary : Option (List Value)) (bytes front par
         type = d.page.kind;
         size = is_natural (last_under (pos 3) (numbers_in d.parts)) (length d.body) d.page.size d.page.fits;
         values = is_natural (last_under (pos 1) inner) (length triples) d.count d.fits;
-        encoding = ap int32 d.encoding ∙ coded column dictionary d.code (filter_map (λ (e : Triple). e.value) triples) d.values d.triples_held.held;
+        encoding = ap (option_and_then fits32) d.encoding ∙ coded column dictionary d.code (filter_map (λ (e : Triple). e.value) triples) d.values d.triples_held.held;
         def_bytes = is_natural (last_under (pos 5) inner) (length d.def) d.def_size def_fits;
         rep_bytes = is_natural (last_under (pos 6) inner) (length d.rep) d.rep_size rep_fits;
         kind = refl;

@@ -1,5 +1,5 @@
 -- A dictionary page that stands at a place is its entries.
-use Rattle.std.proofs.Common.{◌≡◌, ℕ, ◌^◌, ◌<◌, ◌⊎◌, ◌||◌, inl, inr, Bool, true, false, Option, Some, Result, ℤ, pos, List, [], ◌∷◌, ◌++◌, length, refl, sym, ap, subst, ◌∙◌, append_assoc, arith}
+use Rattle.std.proofs.Common.{◌≡◌, ℕ, ◌^◌, ◌<◌, ◌⊎◌, ◌||◌, inl, inr, Bool, true, false, Option, Some, option_and_then, Result, ℤ, pos, List, [], ◌∷◌, ◌++◌, length, refl, sym, ap, subst, ◌∙◌, append_assoc, arith}
 use Rattle.std.specs.Ordering.{int_eq}
 use Rattle.std.proofs.lemmas.List.{append-nil}
 use Rattle.std.proofs.lemmas.Bool.Decides.{Decides-int_eq}
@@ -11,6 +11,7 @@ use Rattle.dk_pqmodel.specs.Shape.{Leaf}
 use Rattle.dk_pqmodel.specs.Datum.{Value}
 use Rattle.dk_pqmodel.specs.FilePages.{IsDictionary}
 use Rattle.dk_pqmodel.specs.declared.fault.PqFault.{PqFault}
+use Rattle.dk_pqmodel.specs.Footer.{int32 as fits32}
 use Rattle.dk_pqmodel.specs.Headers.{rle}
 use Rattle.dk_pqmodel.specs.Pages.{Page}
 use Rattle.dk_pages.specs.Spelled.{IsPageAt}
@@ -35,7 +36,7 @@ pub record DictionaryStands (kind : Leaf) (bytes : List ℕ) (place next : ℕ) 
   pub ends : length (front ++ part) ≡ next
   pub dictionary : IsDictionary kind part entries
 
-code_fits : (code : ℤ) → (code ≡ pos 0) ⊎ (code ≡ pos 2) → int32 (Some code) ≡ Some code
+code_fits : (code : ℤ) → (code ≡ pos 0) ⊎ (code ≡ pos 2) → option_and_then fits32 (Some code) ≡ Some code
 code_fits code (inl e) = rw e refl
 code_fits code (inr e) = rw e refl
 
@@ -90,7 +91,7 @@ dictionary_given kind bytes front part more entries whole d =
       type = d.page.kind;
       size = is_natural (last_under (pos 3) (numbers_in d.parts)) (length d.body) d.page.size d.page.fits;
       values = is_natural (last_under (pos 1) inner) (length entries) d.count d.fits;
-      encoding = ap int32 d.encoding ∙ code_fits d.code d.coded;
+      encoding = ap (option_and_then fits32) d.encoding ∙ code_fits d.code d.coded;
       kind = refl;
       held = refl;
     } in

@@ -12,6 +12,7 @@ use crate::column::Column;
 use crate::leaf::Leaf;
 use dk_pages::{PageView, next_page};
 use dk_pqmeta::{Chunk, RowGroup};
+use dk_pqmodel::PageKind;
 
 /// The codes of the encodings that are read.
 pub(crate) const PLAIN: i32 = 0;

@@ -41,7 +41,7 @@ chosen_walked present ratified version choice = by (gap_from (commit_place prese
 
 -- ---- what is known of a listing
 
-indexed_place : (commits : CommitIndex) (listing : Catalogued) → IsIndexOf commits listing → (staged_first : Bool) (version : ℕ)
+pub indexed_place : (commits : CommitIndex) (listing : Catalogued) → IsIndexOf commits listing → (staged_first : Bool) (version : ℕ)
     → commit_place (has_place commits) (has_name commits) staged_first version ≡ commit_place (lists listing) (ratified_name listing) staged_first version
 indexed_place commits listing indexed staged_first version = ap₂ (preferred staged_first) staged published
   where

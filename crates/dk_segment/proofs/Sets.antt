@@ -20,7 +20,7 @@ use Rattle.dk_listing.specs.declared.named.Staged as entries
 use Rattle.dk_listing.specs.Presence.{lists_staged, name_at}
 use Rattle.dk_segment.specs.CommitIndex.{staged_cmp, HasStaged, HasNames, name_in}
 
-one_same : (x w : ℕ) → is_eq (nat_cmp x w) ≡ (x == w)
+pub one_same : (x w : ℕ) → is_eq (nat_cmp x w) ≡ (x == w)
 one_same x w = grind (arith, nat_tests)
 
 join_last : (t a : Bool) → cond t true a ≡ (a || (t || false))

@@ -1,3 +1,4 @@
 pub mod Chosen
 pub mod CommitIndex
+pub mod Places
 pub mod Walked

@@ -4,8 +4,11 @@
 //! where some commits are read from; no object is read.
 #![tactic(auto)]
 
+mod base;
 mod choosing;
 mod commit_index;
+mod compacted;
+mod stepping;
 mod walk;
 
-pub use choosing::{choose, find_commits};
+pub use choosing::{choose, choose_commits, find_commits};

@@ -26,7 +26,8 @@ fn path_of(alloc: Global, version: u64, object: CommitObject) -> Result<String, 
     }
 }
 
-fn step_of(alloc: Global, version: u64, object: CommitObject) -> Result<Step, AllocError>
+/// The step of a version whose commit is read from this object.
+pub(crate) fn step_of(alloc: Global, version: u64, object: CommitObject) -> Result<Step, AllocError>
     requires { version < 2 ^ 63 }
     ensures { IfOk result (λ step. step ≡ steps.Commit version (place_path (object_place version object))) }
 {
@@ -36,7 +37,8 @@ fn step_of(alloc: Global, version: u64, object: CommitObject) -> Result<Step, Al
     })
 }
 
-fn missing(alloc: Global, version: u64) -> Result<Refusal, AllocError>
+/// The refusal of a version that is missing, by the path of its commit in the log.
+pub(crate) fn missing(alloc: Global, version: u64) -> Result<Refusal, AllocError>
     requires { version < 2 ^ 63 }
     ensures { IfOk result (λ refusal. refusal ≡ Refusal.Missing (commit_path version)) }
 {

@@ -11,7 +11,7 @@ use crate::sizes::step_sizes;
 use dk_engine::Refusal;
 use dk_lawful::{Choice, Segment};
 use dk_listing::Catalogued;
-use dk_segment::choose;
+use dk_segment::choose_commits;
 use std::alloc::{AllocError, Global};
 
 /// The segment of a version, with the sizes of its objects.
@@ -53,7 +53,7 @@ fn size_segment(
     ensures store { result ≡ Err Refusal.Store → ⊥ }
     ensures refusals { IfErr result (OpenRefuses None) }
 {
-    match choose(alloc, listing, version, choice) {
+    match choose_commits(alloc, listing, version, choice) {
         Err(refusal) => Err(refusal),
         Ok(segment) => {
             let sizes = step_sizes(alloc, listing, segment.steps.as_slice());

@@ -20,10 +20,11 @@ use Rattle.dk_lawful.specs.Ids.{HasId}
 use Rattle.dk_lawful.specs.Lawful.{Lawful}
 use Rattle.dk_lawful.specs.SoFar.{HasNeither, first_broken_so_far}
 use Rattle.dk_lawful.specs.Timestamps.{last_timestamp}
-use Rattle.dk_lawful.specs.Rules.{first_broken}
+use Rattle.dk_lawful.specs.Rules.{IsValidNext, first_broken}
 use Rattle.dk_lawful.proofs.HeadRules.{rules_by_heads}
 use Rattle.dk_lawful.proofs.SegmentsAgree.{agree_steps, agrees_itself}
 use Rattle.dk_lawful.proofs.Sound.{length_commits}
+use Rattle.dk_lawful.proofs.Transacted.{transacted_plainly}
 use Rattle.dk_features.specs.InForce.{has_feature}
 use Rattle.dk_features.specs.Names.{catalog_managed}
 use Rattle.dk_listing.specs.OfEvents.{latest}
@@ -40,8 +41,12 @@ use Rattle.dk_txn.specs.FitLaws.{IsNextOf, FitIsNext, FitComes}
 use Rattle.dk_txn.proofs.Concluding.{is_written, at_version}
 use Rattle.dk_txn.proofs.LawfulWinners.{others_are_later, own_is_had}
 use Rattle.dk_txn.proofs.Next.{no_commits}
-use Rattle.dk_txn.proofs.RulesOfLaw.{none_has_neither, supported_has_neither, is_supported, keeps_law}
+use Rattle.dk_txn.proofs.RulesOfLaw.{none_has_neither, supported_has_neither, is_supported, keeps_law, kept_has_neither, says_no_times}
 use Rattle.dk_txn.proofs.Written.{no_name, no_rule}
+
+-- the line of its id, and its actions
+abbrev pub plain_of : Transaction → List Action
+plain_of t = own_commit t.id t.actions.items
 
 -- the same commits on both sides keep states that agree
 agree_all : (commits : List (List Action)) (state whole : TableState) (horizon : ℤ) → Agree state whole horizon → Agree (steps_of_all state commits) (steps_of_all whole commits) horizon
@@ -133,7 +138,7 @@ module _ (events : List Told) (horizon : ℤ) (lawful : Lawful events horizon) (
   record Passed (from : Start) (conflict : Option (ℕ × Kind)) : Type 0 where
     heads : headed (oldest_of t.segment) from ≡ Ok tt
     built : unbuilt from.before t.actions.items ≡ None
-    rules : first_broken_so_far from.before from.version (own_of t) ≡ None
+    rules : first_broken_so_far from.before from.version (plain_of t) ≡ None
     free : conflict ≡ None
 
   passed : (from : Start) (conflict : Option (ℕ × Kind)) (heads may free : Result (Unit {0}) Refusal) (writing : Writing) (meant : Result Writing Refusal) → headed (oldest_of t.segment) from ≡ heads → allowed from t.actions.items t.id ≡ may → unless_conflict conflict ≡ free
@@ -166,7 +171,7 @@ module _ (events : List Told) (horizon : ℤ) (lawful : Lawful events horizon) (
   module _ (limits : Limits) (now : ℤ) (writing : Writing) where
     by_others : (winners : List (List Action)) → AreLater events t.from.version (id_text t.id) winners
         → to_write (writing_at t limits now (record { version = next_version events; before = steps_of_all t.from.before winners }) (conflict_from t.reads t.actions.items t.from.version winners)) ≡ Ok (ToWrite writing)
-        → IsNextOf events t writing
+        → IsNextOf events t now writing
     by_others winners since_then is =
         let all : winners ≡ drop t.from.version commits = since_then.all in
         let from : Start = record { version = next_version events; before = steps_of_all t.from.before winners } in
@@ -181,29 +186,36 @@ module _ (events : List Told) (horizon : ℤ) (lawful : Lawful events horizon) (
         subst (λ (s : TableState). Agree from.before s horizon) leads (agree_all winners t.from.before (fold (take t.from.version commits)) horizon before_agrees) in
         let neither : HasNeither from.before.protocol = neither_at from refl agrees pass.heads (is_supported from.before t.actions.items pass.built) in
         let last : Option ℤ = last_timestamp commits in
+        let valid : IsValidNext commits (plain_of t) =
+        ap (λ (v : ℕ). first_broken (table events) last v (plain_of t)) (length_commits (history events))
+        ∙ sym (rules_by_heads from.before (table events) last (next_version events) (plain_of t) agrees.protocol agrees.metadata)
+        ∙ keeps_law from.before last (next_version events) t.actions.items t.id neither pass.built pass.rules in
+        let after : Agree (steps from.before t.actions.items) (steps (table events) t.actions.items) horizon = agree_steps from.before (table events) horizon t.actions.items agrees in
+        let written : own_of t events now ≡ plain_of t =
+        transacted_plainly commits now (id_text t.id) t.actions.items
+        (says_no_times (steps (table events) t.actions.items) (subst HasNeither after.protocol (kept_has_neither from.before from.version t.actions.items t.id pass.rules))) in
         record {
           next = at;
           by_file = ap (λ (p : Option Protocol). has_feature p catalog_managed) (sym agrees.protocol) ∙ neither.unmanaged;
-          valid = ap (λ (v : ℕ). first_broken (table events) last v (own_of t)) (length_commits (history events))
-              ∙ sym (rules_by_heads from.before (table events) last (next_version events) (own_of t) agrees.protocol agrees.metadata)
-              ∙ keeps_law from.before last (next_version events) t.actions.items t.id neither pass.built pass.rules;
+          valid = subst (IsValidNext commits) (sym written) valid;
+          written = written;
           free = subst (λ (ws : List (List Action)). conflict_from t.reads t.actions.items t.from.version ws ≡ None) all pass.free;
           nowhere = λ version has. since_then.none_own version (stands_after version has) has;
         }
 
     by_since : (meant : Result Since Refusal) → since events limits.object (id_text t.id) t.from.version (next_version events - t.from.version) ≡ meant
-        → outcome_after t limits now (next_version events) (come_to t.reads t.actions.items t.from.version t.from.before None meant) ≡ Ok (ToWrite writing) → IsNextOf events t writing
+        → outcome_after t limits now (next_version events) (come_to t.reads t.actions.items t.from.version t.from.before None meant) ≡ Ok (ToWrite writing) → IsNextOf events t now writing
     by_since (Err refusal) since_is is = absurd (let no : ◌≡◌ {A = Result Outcome Refusal} (Err refusal) (Ok (ToWrite writing)) = is in cc)
     by_since (Ok (Own version)) since_is is = absurd (let no : ◌≡◌ {A = Result Outcome Refusal} (Ok (AlreadyCommitted version)) (Ok (ToWrite writing)) = is in cc)
     by_since (Ok (Others winners)) since_is is =
         by_others winners (others_are_later events horizon lawful limits.object (id_text t.id) t.from.version (next_version events - t.from.version) winners (let low = within in omega (arith, low)) since_is) is
 
     by_limit : (above : Bool) → (if above then Err (refusals.Limit which.Version last_version) else outcome_after t limits now (next_version events) (reached_at events limits t (next_version events))) ≡ Ok (ToWrite writing)
-        → IsNextOf events t writing
+        → IsNextOf events t now writing
     by_limit true is = absurd (let no : ◌≡◌ {A = Result Outcome Refusal} (Err (refusals.Limit which.Version last_version)) (Ok (ToWrite writing)) = is in cc)
     by_limit false is = by_since (since events limits.object (id_text t.id) t.from.version (next_version events - t.from.version)) refl is
 
-    fit_next : outcome events limits t now ≡ Ok (ToWrite writing) → IsNextOf events t writing
+    fit_next : outcome events limits t now ≡ Ok (ToWrite writing) → IsNextOf events t now writing
     fit_next is = by_limit (nat_lt last_version (next_version events)) (sym (ap (outcome_at events limits t now) next_is) ∙ is)
 
   module _ (limits : Limits) (now : ℤ) (version : ℕ) where
@@ -233,12 +245,17 @@ module _ (events : List Told) (horizon : ℤ) (lawful : Lawful events horizon) (
 pub fit_is_next : FitIsNext
 fit_is_next events horizon limits t now writing lawful fit is = fit_next events horizon lawful t fit limits now writing is
 
+module _ (events : List Told) (horizon : ℤ) (limits : Limits) (t : Transaction) (now : ℤ) (lawful : Lawful events horizon) (fit : IsFit events horizon t) where
+  -- whatever the own commit is called
+  comes_as : (own : List Action) → ((writing : Writing) → IsNextOf events t now writing → own_of t events now ≡ own) → (meant : Result Outcome Refusal) → outcome events limits t now ≡ meant → Comes meant own events
+  comes_as own same (Err refusal) is = tt
+  comes_as own same (Ok (AlreadyCommitted version)) is = tt
+  comes_as own same (Ok (ToWrite writing)) is = λ other also.
+      let next = fit_is_next events horizon limits t now writing lawful fit is in
+      record { next = next.next; by_file = next.by_file; valid = subst (IsValidNext (commits_of (history events))) (same writing next) next.valid }
+
+  pub plain_comes : Comes (outcome events limits t now) (plain_of t) events
+  plain_comes = comes_as (plain_of t) (λ writing next. next.written) (outcome events limits t now) refl
+
 pub fit_comes : FitComes
-fit_comes events horizon limits t now lawful fit = by (outcome events limits t now) refl
-  where
-    by : (meant : Result Outcome Refusal) → outcome events limits t now ≡ meant → Comes meant (own_of t) events
-    by (Err refusal) is = tt
-    by (Ok (AlreadyCommitted version)) is = tt
-    by (Ok (ToWrite writing)) is = λ other also.
-        let next = fit_is_next events horizon limits t now writing lawful fit is in
-        record { next = next.next; by_file = next.by_file; valid = next.valid }
+fit_comes events horizon limits t now lawful fit = comes_as events horizon limits t now lawful fit (own_of t events now) (λ writing next. refl) (outcome events limits t now) refl

@@ -6,6 +6,7 @@ mod RulesOfLaw
 mod Refusals
 pub mod Concluding
 pub mod Next
+pub mod OpenStarts
 pub mod Lawfully
 pub mod LawfulWinners
 pub mod FitTransactions

@@ -6,8 +6,9 @@ use Rattle.dk_store.specs.Told.{Told}
 use Rattle.dk_store.specs.Objects.{object}
 use Rattle.dk_model.specs.declared.action.Action.{Action}
 use Rattle.dk_model.specs.declared.state.TableState.{TableState}
-use Rattle.dk_model.specs.State.{empty_state, fold}
+use Rattle.dk_model.specs.State.{empty_state, steps, fold}
 use Rattle.dk_paths.specs.Names.{commit_path}
+use Rattle.dk_paths.specs.Numbers.{id_text}
 use Rattle.dk_engine.specs.declared.limits.Limits.{Limits}
 use Rattle.dk_engine.specs.declared.limits.Which.TheVariants as which
 use Rattle.dk_engine.specs.declared.refusal.Refusal.{Refusal}
@@ -18,7 +19,9 @@ use Rattle.dk_lawful.specs.Lawful.{Lawful}
 use Rattle.dk_lawful.specs.Rules.{first_broken}
 use Rattle.dk_lawful.specs.SoFar.{HasNeither, first_broken_so_far}
 use Rattle.dk_lawful.specs.Timestamps.{last_timestamp}
+use Rattle.dk_lawful.specs.Transacted.{transacted}
 use Rattle.dk_lawful.proofs.Sound.{length_commits}
+use Rattle.dk_lawful.proofs.Transacted.{transacted_plainly}
 use Rattle.dk_listing.specs.OfEvents.{latest}
 use Rattle.dk_snapshot.specs.declared.table.Snapshot.{Snapshot}
 use Rattle.dk_snapshot.specs.Opening.{usual_choice, opened}
@@ -30,9 +33,10 @@ use Rattle.dk_snapshot.proofs.LawfulOpens.{opened_is_asked, opened_is_table}
 use Rattle.dk_txn.specs.declared.start.Start.{Start}
 use Rattle.dk_txn.specs.Attempt.{last_version, after_snapshot, start_after, start, unbuilt, unsupported, verdict, own_commit, commit_text, Writing, if_allowed, if_within, attempt_from, attempt}
 use Rattle.dk_txn.specs.Commits.{ComesNext}
+use Rattle.dk_txn.specs.FitLaws.{AttemptsAreTransacted}
 use Rattle.dk_txn.proofs.Headed.{opened_headed}
 use Rattle.dk_txn.proofs.NotAbove.{free_above}
-use Rattle.dk_txn.proofs.RulesOfLaw.{none_has_neither, supported_has_neither, is_supported, keeps_law}
+use Rattle.dk_txn.proofs.RulesOfLaw.{none_has_neither, supported_has_neither, is_supported, keeps_law, kept_has_neither, says_no_times}
 
 -- ---- what a commit comes after
 
@@ -113,6 +117,7 @@ comes_next events from actions id begun none rules horizon lawful =
 pub record Next (events : List Told) (actions : List Action) (id : ℕ) (writing : Writing) : Type 0 where
   pub free : IsNone (object events (commit_path writing.0))
   pub comes : ComesNext writing.0 (own_commit id actions) events
+  pub law : (moment horizon : ℤ) → Lawful events horizon → transacted (commits_of (history events)) moment (id_text id) actions ≡ own_commit id actions
 
 pub within_is : (fit : Result (Unit {0}) Refusal) (meant writing : Writing) → if_fits fit (Ok meant) ≡ Ok writing → meant ≡ writing
 within_is (Ok u) meant writing is = cc
@@ -132,8 +137,14 @@ attempt_next events limits actions now id writing small is = by (start events li
         record {
           free = subst (λ v. IsNone (object events (commit_path v))) at begun.free;
           comes = subst (λ v. ComesNext v (own_commit id actions) events) at (comes_next events from actions id begun supports rules);
+          law = λ moment horizon lawful. transacted_plainly (commits_of (history events)) moment (id_text id) actions
+              (says_no_times (steps (table events) actions)
+              (subst (λ (s : TableState). HasNeither (steps s actions).protocol) (begun.before horizon lawful) (kept_has_neither from.before from.version actions id rules)));
         }
 
     by : (begun : Result Start Refusal) → start events limits now ≡ begun → attempt_from begun limits actions now id ≡ Ok writing → Next events actions id writing
     by (Err refusal) starts meant = cc
     by (Ok from) starts meant = by_verdict from (unbuilt from.before actions) (first_broken_so_far from.before from.version (own_commit id actions)) starts refl refl meant
+
+pub attempts_are_transacted : AttemptsAreTransacted
+attempts_are_transacted events horizon limits actions now id writing lawful small is = (attempt_next events limits actions now id writing small is).law now horizon lawful

@@ -27,7 +27,7 @@ use Rattle.dk_txn.specs.Attempt.{Writing}
 use Rattle.dk_txn.specs.Commits.{CommitRefuses, HistoryAfterRefusal}
 use Rattle.dk_txn.specs.Transactions.{Outcome, AlreadyCommitted, ToWrite, outcome, Concludes, Comes, ConcludesHistory, Remembers}
 use Rattle.dk_txn.specs.TransactionHistory.{actor_of, IsFit, own_of, CommitsOwn, SaysOwn}
-use Rattle.dk_txn.proofs.FitTransactions.{fit_is_next, fit_comes, fit_had, stands_after}
+use Rattle.dk_txn.proofs.FitTransactions.{plain_of, fit_is_next, plain_comes, fit_had, stands_after}
 use Rattle.dk_txn.proofs.Lawfully.{nothing_added}
 
 -- ---- by the history alone
@@ -53,14 +53,14 @@ module _ (events later : List Told) (horizon : ℤ) (t : Transaction) (fit : IsF
   }
 
   -- the history is longer by the own commit, whose id stood nowhere
-  module _ (more : HasOneMore (own_of t) events later) (nowhere : StandsNowhere events (id_text t.id)) where
+  module _ (more : HasOneMore (plain_of t) events later) (nowhere : StandsNowhere events (id_text t.id)) where
     longer_by_one : length (history later) ≡ length (history events) + 1
-    longer_by_one = ap length more ∙ length-append (history events) (by_file (own_of t) ∷ [])
+    longer_by_one = ap length more ∙ length-append (history events) (by_file (plain_of t) ∷ [])
 
     at_end : (version : ℕ) → HasId (history later) version (id_text t.id) → version ≡ length (history events)
     at_end version (commit, stands, says_it) = elim (cases_lt version (length (history events))) [
       | inl below ↦
-          absurd (nowhere version (commit, sym (slice_get-before (history events) (by_file (own_of t) ∷ []) version below) ∙ (ap (λ (h : List RatifiedCommit). slice_get h version) (sym more) ∙ stands), says_it))
+          absurd (nowhere version (commit, sym (slice_get-before (history events) (by_file (plain_of t) ∷ []) version below) ∙ (ap (λ (h : List RatifiedCommit). slice_get h version) (sym more) ∙ stands), says_it))
       | inr most ↦
           let high = slice_get_within (history later) version commit stands in
           let long = longer_by_one in
@@ -69,16 +69,16 @@ module _ (events later : List Told) (horizon : ℤ) (t : Transaction) (fit : IsF
 
     has_at_end : HasId (history later) (length (history events)) (id_text t.id)
     has_at_end = (
-      by_file (own_of t),
-      ap (λ (h : List RatifiedCommit). slice_get h (length (history events))) more ∙ slice_get-end (history events) (by_file (own_of t)),
+      by_file (plain_of t),
+      ap (λ (h : List RatifiedCommit). slice_get h (length (history events))) more ∙ slice_get-end (history events) (by_file (plain_of t)),
       ap (λ (b : Bool). b || list_any (says (id_text t.id)) t.actions.items) (text_refl (id_text t.id)),
     )
 
     same_front : (count : ℕ) → count ≤ length (history events) → take count (commits_of (history later)) ≡ take count (commits_of (history events))
     same_front count most =
         ap (λ (h : List RatifiedCommit). take count (commits_of h)) more
-        ∙ ap (take count) (map-append (λ (c : RatifiedCommit). c.actions) (history events) (by_file (own_of t) ∷ []))
-        ∙ take-append-le count (commits_of (history events)) (commits_of (by_file (own_of t) ∷ [])) (let long = length_commits (history events) in omega (arith, most, long))
+        ∙ ap (take count) (map-append (λ (c : RatifiedCommit). c.actions) (history events) (by_file (plain_of t) ∷ []))
+        ∙ take-append-le count (commits_of (history events)) (commits_of (by_file (plain_of t) ∷ [])) (let long = length_commits (history events) in omega (arith, most, long))
 
     fits_more : (answered : Option ℕ) → HasAnswered answered → actors.TransactionFits later horizon (record (actor_of t) { answered = answered })
     fits_more answered has = record {
@@ -94,10 +94,10 @@ module _ (events later : List Told) (horizon : ℤ) (t : Transaction) (fit : IsF
 -- ---- what a commit did
 
 module _ (events later : List Told) (limits : Limits) (t after : Transaction) (now : ℤ) (result : Result Committed Refusal) (fresh : t.committed ≡ None) (remembers : Remembers t result after)
-    (keeps : Comes (outcome events limits t now) (own_of t) events → StaysLawful events later)
+    (keeps : Comes (outcome events limits t now) (plain_of t) events → StaysLawful events later)
     (horizon : ℤ) (lawful : Lawful events horizon) (fit : IsFit events horizon t) where
   lawful_later : Lawful later horizon
-  lawful_later = (keeps (fit_comes events horizon limits t now lawful fit)).lawful horizon lawful
+  lawful_later = (keeps (plain_comes events horizon limits t now lawful fit)).lawful horizon lawful
 
   none_answered : (h : List RatifiedCommit) (version : ℕ) → t.committed ≡ Some version → HasId h version (id_text t.id)
   none_answered h version is = absurd (let no : ◌≡◌ {A = Option ℕ} None (Some version) = sym fresh ∙ is in cc)
@@ -109,11 +109,11 @@ module _ (events later : List Told) (limits : Limits) (t after : Transaction) (n
   fit_same : IsSameHistory events later → after ≡ t → IsFit later horizon after
   fit_same same is = subst (IsFit later horizon) (sym is) (with_answer events later horizon t fit t.committed (fits_same events later horizon t fit same t.committed (none_answered (history later))))
 
-  fit_more : HasOneMore (own_of t) events later → StandsNowhere events (id_text t.id) → after ≡ t → IsFit later horizon after
+  fit_more : HasOneMore (plain_of t) events later → StandsNowhere events (id_text t.id) → after ≡ t → IsFit later horizon after
   fit_more more nowhere is =
       subst (IsFit later horizon) (sym is) (with_answer events later horizon t fit t.committed (fits_more events later horizon t fit more nowhere t.committed (none_answered (history later))))
 
-  fit_refused : (refusal : Refusal) → HistoryAfterRefusal refusal (own_of t) events later → StandsNowhere events (id_text t.id) → after ≡ t → IsFit later horizon after
+  fit_refused : (refusal : Refusal) → HistoryAfterRefusal refusal (plain_of t) events later → StandsNowhere events (id_text t.id) → after ≡ t → IsFit later horizon after
   fit_refused refusals.Store (inl same) nowhere is = fit_same same is
   fit_refused refusals.Store (inr more) nowhere is = fit_more more nowhere is
   fit_refused refusal same nowhere is = fit_same same is
@@ -143,7 +143,7 @@ module _ (events later : List Told) (limits : Limits) (t after : Transaction) (n
   refused_same refusal cause did = same_told did.1
 
   says_by : (meant : Result Outcome Refusal) → outcome events limits t now ≡ meant → (answer : Result Committed Refusal) → result ≡ answer → Concludes meant events answer (Some later)
-      → ConcludesHistory meant (own_of t) answer events later → CommitsOwn t after answer events later horizon
+      → ConcludesHistory meant (plain_of t) answer events later → CommitsOwn t after now answer events later horizon
   says_by (Ok (AlreadyCommitted version)) is (Ok committed) answers did said =
       let same : later ≡ events = same_told did.1 in
       let at : committed.version ≡ version = did.0 in
@@ -158,13 +158,13 @@ module _ (events later : List Told) (limits : Limits) (t after : Transaction) (n
       }
   says_by (Ok (AlreadyCommitted version)) is (Err refusal) answers did said =
       let same = same_history (same_told did.1) in
-      record { lawful = lawful_later; history = nothing_added refusal (own_of t) events later same; fit = fit_same same (as_before remembers refusal answers) }
+      record { lawful = lawful_later; history = nothing_added refusal (own_of t events now) events later same; fit = fit_same same (as_before remembers refusal answers) }
   says_by (Ok (ToWrite writing)) is (Ok committed) answers did said =
       let (at, more) = said horizon lawful in
       let next = fit_is_next events horizon limits t now writing lawful fit is in
       record {
         lawful = lawful_later;
-        history = inr (record { next = at; more = more; valid = next.valid; free = next.free });
+        history = inr (record { next = at; more = subst (λ (own : List Action). HasOneMore own events later) (sym next.written) more; valid = next.valid; free = next.free });
         fit = fit_answered committed.version (answered_as committed.version answers)
             (fits_more events later horizon t fit more next.nowhere (Some committed.version)
             (answer_has committed.version (subst (λ (v : ℕ). HasId (history later) v (id_text t.id)) (sym at) (has_at_end events later horizon t fit more next.nowhere))));
@@ -172,44 +172,45 @@ module _ (events later : List Told) (limits : Limits) (t after : Transaction) (n
   says_by (Ok (ToWrite writing)) is (Err refusal) answers did said =
       let next = fit_is_next events horizon limits t now writing lawful fit is in
       let history_after = said horizon lawful in
-      record { lawful = lawful_later; history = history_after; fit = fit_refused refusal history_after next.nowhere (as_before remembers refusal answers) }
+      record { lawful = lawful_later; history = subst (λ (own : List Action). HistoryAfterRefusal refusal own events later) (sym next.written) history_after; fit = fit_refused refusal history_after next.nowhere (as_before remembers refusal answers) }
   says_by (Err cause) is (Ok committed) answers (text, meant, adds) said = absurd (let no : ◌≡◌ {A = Result Writing Refusal} (Err cause) (Ok (committed.version, text)) = meant in cc)
   says_by (Err cause) is (Err refusal) answers did said =
       let same = same_history (refused_same refusal cause did) in
-      record { lawful = lawful_later; history = nothing_added refusal (own_of t) events later same; fit = fit_same same (as_before remembers refusal answers) }
+      record { lawful = lawful_later; history = nothing_added refusal (own_of t events now) events later same; fit = fit_same same (as_before remembers refusal answers) }
 
 -- ---- the whole
 
 pub says_own : (events later : List Told) (limits : Limits) (t after : Transaction) (now : ℤ) (result : Result Committed Refusal) → t.committed ≡ None → Remembers t result after
     → Concludes (outcome events limits t now) events result (Some later)
-    → (Comes (outcome events limits t now) (own_of t) events → StaysLawful events later)
-    → (Comes (outcome events limits t now) (own_of t) events → ConcludesHistory (outcome events limits t now) (own_of t) result events later)
-    → SaysOwn t after result events later
+    → (Comes (outcome events limits t now) (plain_of t) events → StaysLawful events later)
+    → (Comes (outcome events limits t now) (plain_of t) events → ConcludesHistory (outcome events limits t now) (plain_of t) result events later)
+    → SaysOwn t after now result events later
 says_own events later limits t after now result fresh remembers did keeps says horizon lawful fit =
-    says_by events later limits t after now result fresh remembers keeps horizon lawful fit (outcome events limits t now) refl result refl did (says (fit_comes events horizon limits t now lawful fit))
+    says_by events later limits t after now result fresh remembers keeps horizon lawful fit (outcome events limits t now) refl result refl did (says (plain_comes events horizon limits t now lawful fit))
 
 -- over what a store may tell
 pub tells_own : (told new : Option (List Told)) (limits : Limits) (t after : Transaction) (now passed : ℤ) (result : Result Committed Refusal) → passed ≡ now → t.committed ≡ None → Remembers t result after → is_some new ≡ is_some told
     → IfSome told (λ events. Concludes (outcome events limits t passed) events result new)
-    → (IfSome told (λ events. Comes (outcome events limits t passed) (own_of t) events) → KeepsLawful told new)
-    → (IfSome told (λ events. Comes (outcome events limits t passed) (own_of t) events) → IfBoth told new (λ events later. ConcludesHistory (outcome events limits t passed) (own_of t) result events later))
-    → IfBoth told new (SaysOwn t after result)
+    → (IfSome told (λ events. Comes (outcome events limits t passed) (plain_of t) events) → KeepsLawful told new)
+    → (IfSome told (λ events. Comes (outcome events limits t passed) (plain_of t) events) → IfBoth told new (λ events later. ConcludesHistory (outcome events limits t passed) (plain_of t) result events later))
+    → IfBoth told new (SaysOwn t after now result)
 tells_own None None limits t after now passed result moment fresh remembers alike did keeps says = tt
 tells_own None (Some later) limits t after now passed result moment fresh remembers alike did keeps says = absurd (let no : true ≡ false = alike in cc)
 tells_own (Some events) None limits t after now passed result moment fresh remembers alike did keeps says = absurd (let no : false ≡ true = alike in cc)
-tells_own (Some events) (Some later) limits t after now passed result moment fresh remembers alike did keeps says = says_own events later limits t after passed result fresh remembers did keeps says
+tells_own (Some events) (Some later) limits t after now passed result moment fresh remembers alike did keeps says =
+    subst (λ (n : ℤ). SaysOwn t after n result events later) moment (says_own events later limits t after passed result fresh remembers did keeps says)
 
 -- again after an answer
-pub tells_again : (told new : Option (List Told)) (t after : Transaction) (version : ℕ) (result : Result Committed Refusal) → t.committed ≡ Some version → result ≡ Ok (record { version = version }) → Remembers t result after → new ≡ told
-    → IfBoth told new (SaysOwn t after result)
-tells_again None None t after version result is answers remembers same = tt
-tells_again None (Some later) t after version result is answers remembers same = absurd (let no : ◌≡◌ {A = Option (List Told)} (Some later) None = same in cc)
-tells_again (Some events) None t after version result is answers remembers same = absurd (let no : ◌≡◌ {A = Option (List Told)} None (Some events) = same in cc)
-tells_again (Some events) (Some later) t after version result is answers remembers same = λ horizon lawful fit.
+pub tells_again : (told new : Option (List Told)) (t after : Transaction) (now : ℤ) (version : ℕ) (result : Result Committed Refusal) → t.committed ≡ Some version → result ≡ Ok (record { version = version }) → Remembers t result after → new ≡ told
+    → IfBoth told new (SaysOwn t after now result)
+tells_again None None t after now version result is answers remembers same = tt
+tells_again None (Some later) t after now version result is answers remembers same = absurd (let no : ◌≡◌ {A = Option (List Told)} (Some later) None = same in cc)
+tells_again (Some events) None t after now version result is answers remembers same = absurd (let no : ◌≡◌ {A = Option (List Told)} None (Some events) = same in cc)
+tells_again (Some events) (Some later) t after now version result is answers remembers same = λ horizon lawful fit.
     let at : later ≡ events = cc in
     let has : HasId (history events) version (id_text t.id) = fit.fits.has_answered version is in
     let as_it_was : after ≡ record t { committed = Some version } = subst (λ (r : Result Committed Refusal). Remembers t r after) answers remembers in
-    subst (λ (r : Result Committed Refusal). CommitsOwn t after r events later horizon) (sym answers)
+    subst (λ (r : Result Committed Refusal). CommitsOwn t after now r events later horizon) (sym answers)
     (record {
       lawful = subst (λ (es : List Told). Lawful es horizon) (sym at) lawful;
       history = inl (record { same = at; after = stands_after events horizon lawful t fit version has; has = has });

@@ -1,5 +1,6 @@
 pub mod Attempt
 pub mod Commits
+pub mod Starts
 pub mod WinnerLaws
 pub mod FitLaws
 pub mod Winners

@@ -15,7 +15,6 @@ use Rattle.dk_lawful.specs.Rules.{IsValidNext}
 use Rattle.dk_txn.specs.declared.commit.Committed.{Committed}
 use Rattle.dk_txn.specs.declared.start.Start.{Start}
 use Rattle.dk_txn.specs.declared.transaction.Transaction.{Transaction}
-use Rattle.dk_txn.specs.Attempt.{own_commit}
 use Rattle.dk_txn.specs.Commits.{HistoryAfterRefusal}
 
 -- ---- the transaction as the law of the log sees it
@@ -33,8 +32,9 @@ pub record IsFit (events : List Told) (horizon : ℤ) (t : Transaction) : Type 0
 
 -- ---- what it did
 
-abbrev pub own_of : Transaction → List Action
-own_of t = own_commit t.id t.actions.items
+-- what it commits at a moment, as the law of the log has it
+abbrev pub own_of : Transaction → List Told → ℤ → List Action
+own_of t events now = actors.commit_by (actor_of t) (commits_of (history events)) now
 
 -- the commits of the history that came after its snapshot
 abbrev pub later_commits : Transaction → List Told → List (List Action)
@@ -47,22 +47,22 @@ pub record HadCommit (t : Transaction) (version : ℕ) (events later : List Told
   pub has : HasId (history events) version (id_text t.id)
 
 -- the history is longer by exactly its commit, as this version; the rules held there, and none of the commits after the snapshot was in the way
-pub record AddsOwn (t : Transaction) (version : ℕ) (events later : List Told) : Type 0 where
+pub record AddsOwn (t : Transaction) (now : ℤ) (version : ℕ) (events later : List Told) : Type 0 where
   pub next : version ≡ next_version events
-  pub more : HasOneMore (own_of t) events later
-  pub valid : IsValidNext (commits_of (history events)) (own_of t)
+  pub more : HasOneMore (own_of t events now) events later
+  pub valid : IsValidNext (commits_of (history events)) (own_of t events now)
   pub free : conflict_from t.reads t.actions.items t.from.version (later_commits t events) ≡ None
 
-abbrev pub HistoryAfter : Transaction → Result Committed Refusal → List Told → List Told → Type 0
-HistoryAfter t (Ok committed) events later = HadCommit t committed.version events later ⊎ AddsOwn t committed.version events later
-HistoryAfter t (Err refusal) events later = HistoryAfterRefusal refusal (own_of t) events later
+abbrev pub HistoryAfter : Transaction → ℤ → Result Committed Refusal → List Told → List Told → Type 0
+HistoryAfter t now (Ok committed) events later = HadCommit t committed.version events later ⊎ AddsOwn t now committed.version events later
+HistoryAfter t now (Err refusal) events later = HistoryAfterRefusal refusal (own_of t events now) events later
 
 -- the log stays lawful, the history says what was answered, and the transaction, as it is after the call, stays fit
-pub record CommitsOwn (t after : Transaction) (result : Result Committed Refusal) (events later : List Told) (horizon : ℤ) : Type 0 where
+pub record CommitsOwn (t after : Transaction) (now : ℤ) (result : Result Committed Refusal) (events later : List Told) (horizon : ℤ) : Type 0 where
   pub lawful : Lawful later horizon
-  pub history : HistoryAfter t result events later
+  pub history : HistoryAfter t now result events later
   pub fit : IsFit later horizon after
 
 -- on a lawful log with the transaction fit
-abbrev pub SaysOwn : Transaction → Transaction → Result Committed Refusal → List Told → List Told → Type 0
-SaysOwn t after result events later = (horizon : ℤ) → Lawful events horizon → IsFit events horizon t → CommitsOwn t after result events later horizon
+abbrev pub SaysOwn : Transaction → Transaction → ℤ → Result Committed Refusal → List Told → List Told → Type 0
+SaysOwn t after now result events later = (horizon : ℤ) → Lawful events horizon → IsFit events horizon t → CommitsOwn t after now result events later horizon

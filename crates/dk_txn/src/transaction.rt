@@ -3,10 +3,11 @@ ghost use Rattle.std.specs.Prelude.{IfErr, ◌≡◌, ◌<◌, ◌^◌, ◌++◌
 ghost use Rattle.dk_store.specs.Seen.{IfTold};
 ghost use Rattle.dk_engine.specs.Effects.{MayPut, OnlyReads};
 ghost use Rattle.std.specs.Option.{ForSome};
-ghost use Rattle.dk_engine.specs.Answers.{Gives};
+ghost use Rattle.dk_engine.specs.Answers.{Gives, GivesBy};
 ghost use Rattle.dk_lawful.specs.Kept.{IfBoth, KeepsLawful};
 ghost use Rattle.dk_txn.specs.Attempt.{own_commit, start, start_of};
 ghost use Rattle.dk_txn.specs.Commits.{CountsClash, RoseTwice, was_taken};
+ghost use Rattle.dk_txn.specs.Starts.{StartsAs};
 ghost use Rattle.dk_txn.specs.TransactionHistory.{SaysOwn};
 ghost use Rattle.dk_txn.specs.Transactions.{Begins, Comes, Concludes, ConcludesHistory, IsNew, Remembers, outcome, version_meant};
 ghost use Rattle.dk_txn.specs.Refusals.{BeginRefuses, CheckRefuses, TransactionRefuses};
@@ -168,6 +169,7 @@ impl Transaction {
         ensures reads { OnlyReads (seen store.old) (seen store.new) result }
         ensures refusals { IfErr result BeginRefuses }
         ensures means { IfTold (seen store.old) (λ events. Gives (λ t. t.from) result (start events limits now)) }
+        ensures opens { IfTold (seen store.old) (λ events. GivesBy (λ t. t.from) result (StartsAs events limits now)) }
         ensures new { IfOk result (IsNew reads id) }
     {
         match open_latest(alloc, store, json, limits, now) {
@@ -224,7 +226,8 @@ impl Transaction {
     /// Beside faults of the store and want of memory it is refused, in this order: `Limit` of `Version` where no version can
     /// follow the latest or the snapshot's, `WinnersGone` of the first version whose commit isn't listed, of the first winner
     /// that can't be read `Limit` of `Object` or `Damaged`, `Damaged` of the oldest object as a whole where the table has
-    /// no protocol or no metadata, `Unsupported` of what the table asks for that isn't read or isn't written, `Invalid` where a rule is broken,
+    /// no protocol or no metadata, `Unsupported` of what the table asks for that isn't read or isn't written, and then of what the
+    /// transaction would have it ask for that isn't written so far, by name, `Invalid` where a rule is broken,
     /// `Conflict` with the first winner that is in the way, `Limit` of `Object` where the text is greater than
     /// `limits.object` bytes, `Taken` where two other writers were there first.
     ///
@@ -253,7 +256,7 @@ impl Transaction {
             → IfBoth (seen store.old).told (seen store.new).told (λ events later. ConcludesHistory (outcome events limits self.old now) (own_commit self.old.id self.old.actions.items) result events later) }
 
         // In the words of those who are at work on a table.
-        ensures own { IfBoth (seen store.old).told (seen store.new).told (SaysOwn self.old self.new result) }
+        ensures own { IfBoth (seen store.old).told (seen store.new).told (SaysOwn self.old self.new now result) }
     {
         if let Some(version) = self.committed {
             return Ok(Committed { version });

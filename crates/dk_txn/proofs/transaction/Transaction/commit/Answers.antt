@@ -10,7 +10,7 @@ use Rattle.dk_txn.proofs.transaction.Transaction.commit.Goals as goal
 
 pub returns-in-Some-clause-own : goal.returns-in-Some-clause-own
 returns-in-Some-clause-own g c =
-    tells_again _ _ c.args.self.now c.args.self.now c.in-Some.version _ c.in-Some.is refl (ap (λ (committed : Option ℕ). record c.args.self.now { committed = committed }) c.in-Some.is) refl
+    tells_again _ _ c.args.self.now c.args.self.now c.args.now c.in-Some.version _ c.in-Some.is refl (ap (λ (committed : Option ℕ). record c.args.self.now { committed = committed }) c.in-Some.is) refl
 
 pub returns-in-Err-clause-own : goal.returns-in-Err-clause-own
 returns-in-Err-clause-own g c =

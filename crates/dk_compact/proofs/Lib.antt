@@ -1,0 +1,4 @@
+mod LentEntries
+mod TakenNewest
+mod LastWords
+mod Sums

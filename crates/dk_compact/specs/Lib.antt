@@ -1,0 +1,5 @@
+pub mod Settled
+pub mod Keyed
+pub mod Summary
+pub mod Taken
+pub mod Example
