@@ -4,7 +4,7 @@ ghost use Rattle.std.specs.Prelude.{pos, true};
 ghost use Rattle.dk_ckread.specs.ParquetExample.{first_part, in_one_object, in_parts, parts_in_use, top_in_parquet, with_sidecar};
 ghost use Rattle.dk_ckread.specs.ParquetFiles.{add_file, head_file, side_file, top_file};
 ghost use Rattle.dk_ckread.specs.ParquetRows.{add_rows, head_rows, side_rows, top_rows};
-ghost use Rattle.dk_ckread.specs.ReadLaws.{ReadIsMeant};
+ghost use Rattle.dk_ckread.specs.ReadLaws.{MeantIsRead, ReadIsMeant};
 ghost use Rattle.dk_ckread.specs.SidecarExample.{other_sidecar, other_text, sidecar_gone};
 ghost use Rattle.dk_lawful.specs.CheckpointLaws.{CheckpointMeansOne, ReadCheckpointsStand};
 ghost use Rattle.dk_lawful.specs.ContentLaws.{ClassicMayBeMade, V2MayBeMade};
@@ -26,9 +26,11 @@ pub fn checkpoints_mean_one()
 {}
 
 /// What [`crate::read_classic`] answers of a checkpoint is what it means, so on a lawful log it stands for the state at its
-/// version (Delta Lake's PROTOCOL.md, "Checkpoints").
+/// version. And where a checkpoint means actions, none of which names a sidecar, and its object is within the limit, these are
+/// answered, but for faults of the store and want of memory (Delta Lake's PROTOCOL.md, "Checkpoints").
 pub fn read_is_meant()
-    ensures { ReadIsMeant }
+    ensures answered { ReadIsMeant }
+    ensures meant { MeantIsRead }
 {}
 
 /// Whatever a version of a lawful log is read from, a complete checkpoint or none and then commits and compacted files, leads to
