@@ -1,0 +1,2 @@
+pub mod SoundSchemas
+pub mod RowSteps

@@ -1,0 +1,4 @@
+pub mod Holds
+pub mod RowFaults
+pub mod RowsReading
+pub mod Parts

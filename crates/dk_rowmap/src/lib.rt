@@ -1,0 +1,13 @@
+//! Rows of checkpoints in Parquet (Delta Lake's PROTOCOL.md, "Checkpoint Schema"): the actions that they mean, and the schemas by
+//! which checkpoints are read and written.
+#![tactic(auto)]
+
+mod fault;
+mod kinds;
+mod part;
+mod reading;
+mod schemas;
+
+pub use fault::RowFault;
+pub use reading::actions_of_rows;
+pub use schemas::{read_schema, written_schema};
