@@ -1,5 +1,5 @@
 -- What an object answers, put together from what its file and its rows do.
-use Rattle.std.proofs.Common.{◌≡◌, inl, inr, List, Option, Some, refl}
+use Rattle.std.proofs.Common.{inl, inr, List, refl}
 use Rattle.std.specs.Prelude.{ℕ, Result, Ok, Err}
 use Rattle.dk_model.specs.declared.action.Action.{Action}
 use Rattle.dk_pqmodel.specs.Datum.{Cells}
