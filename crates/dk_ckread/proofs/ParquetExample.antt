@@ -44,10 +44,10 @@ use Rattle.dk_lawful.proofs.OnTexts.{commits_on_literals, rules_on_literals}
 use Rattle.dk_lawful.proofs.SegmentsAgree.{agrees_itself}
 use Rattle.dk_lawful.proofs.Standing.{kept_made, made_here}
 use Rattle.dk_pqread.proofs.OneList.{one_list}
-use Rattle.dk_ckread.specs.ParquetFiles.{head_file, add_file}
-use Rattle.dk_ckread.specs.ParquetRows.{head_rows, add_rows}
-use Rattle.dk_ckread.specs.ParquetExample.{in_one_object, first_part, in_parts, parts_in_use, sidecar_made, top_text, with_sidecar}
-use Rattle.dk_ckread.proofs.FilesMean.{head_file_means, add_file_means}
+use Rattle.dk_ckread.specs.ParquetFiles.{head_file, add_file, side_file, top_file}
+use Rattle.dk_ckread.specs.ParquetRows.{head_rows, add_rows, side_rows, top_rows}
+use Rattle.dk_ckread.specs.ParquetExample.{in_one_object, first_part, in_parts, parts_in_use, sidecar_made, top_text, with_sidecar, top_in_parquet, side_alone}
+use Rattle.dk_ckread.proofs.FilesMean.{head_file_means, add_file_means, side_file_means, top_file_means}
 
 unfoldable rows_on_literals : ⊤
 unfolding commits_on_literals rules_on_literals txn_group add_group vector_group remove_group format_group metadata_group protocol_group domain_group checkpoint_group sidecar_group txn_of domain_of checkpoint_meta_of sidecar_of row_means
@@ -289,3 +289,42 @@ with_sidecar_is_lawful horizon =
     (second_opened (sidecar_made example) horizon (still_published (Sidecar side_name) add_file (pos 2) side_place no_side) (quiet (Sidecar side_name) add_file (pos 2) side_place (λ h. refl)))
     (top_means ∙ ap Some (sym (v2_is horizon))) names_side
     (add_file, kept_actions, [], made_here example (place_path (Sidecar side_name)) add_file (pos 2) (Sidecar side_name) (place_of_path (Sidecar side_name) side_place), (add_has, refl), refl, side_is horizon))
+
+-- ---- a checkpoint of the form V2 in Parquet
+
+top_rows_mean : actions_of_rows top_rows ≡ Some (mark 0 ∷ first_actions)
+unfolding rows_on_literals
+top_rows_mean = refl
+
+top_has : InParquet top_file (mark 0 ∷ first_actions)
+top_has = record { rows = top_rows; means = top_file_means; read = top_rows_mean }
+
+first_v2_is : (cut : ℤ) → v2_content first_state 0 cut [] ≡ mark 0 ∷ first_actions
+unfolding rows_on_literals
+first_v2_is cut = rw (none_in AddFile, none_in ℤ, none_in Application, none_in (List ℕ)) refl
+
+parquet_place : IsPlace (V2 0 7 false)
+parquet_place = ((omega arith), (omega arith))
+
+none_in_parquet : (held : List ℕ) → Holds example (V2 0 7 false) held → ⊥
+none_in_parquet held holds = let only = only_commits (V2 0 7 false) held holds in let no : Commit_at only.0 ≡ V2 0 7 false = only.1 in cc
+
+pub top_in_parquet_is_lawful : IsLawfulAfter top_in_parquet
+top_in_parquet_is_lawful horizon =
+    made example (V2 0 7 false) top_file (pos 2) horizon (example_is_lawful horizon) parquet_place none_in_parquet
+    (v2_may_be_made one_list example horizon 0 7 false first_state horizon [] [] top_file
+    (opened example 0 first_state horizon (example_published.0, (omega arith), example_published.2) example_commits refl first_kept)
+    (subst (InParquet top_file) (sym (first_v2_is horizon)) top_has) refl refl)
+
+-- ---- a part that names a sidecar
+
+side_rows_mean : actions_of_rows side_rows ≡ Some (side_alone ∷ [])
+unfolding rows_on_literals
+side_rows_mean = refl
+
+pub side_has : InParquet side_file (side_alone ∷ [])
+side_has = record { rows = side_rows; means = side_file_means; read = side_rows_mean }
+
+pub names_alone : sidecars_of (side_alone ∷ []) ≡ Some (side_name ∷ [])
+unfolding sidecar_of_path percent_decode commits_on_literals
+names_alone = refl

@@ -1,12 +1,14 @@
 -- Checkpoints in Parquet after the example: in one object, in parts, and in the form V2 with a sidecar.
-use Rattle.std.specs.Prelude.{ℕ, pos, true, List, ◌∷◌, ◌++◌}
+use Rattle.std.specs.Prelude.{ℕ, pos, true, false, List, ◌∷◌, ◌++◌, codes}
+use Rattle.dk_model.specs.declared.action.Action.{Action}
+use Rattle.dk_model.specs.declared.action.Action.TheVariants as action
 use Rattle.dk_store.specs.Told.{Told, Made, Deleted}
 use Rattle.dk_paths.specs.Names.{commit_path}
 use Rattle.dk_paths.specs.Places.{Classic, Part, V2, Sidecar, place_path}
 use Rattle.dk_lawful.specs.CheckpointExample.{mark_text_1, side_text}
 use Rattle.dk_lawful.specs.Example.{first_text}
 use Rattle.dk_lawful.specs.MoreExamples.{side_name}
-use Rattle.dk_ckread.specs.ParquetFiles.{head_file, add_file}
+use Rattle.dk_ckread.specs.ParquetFiles.{head_file, add_file, top_file}
 
 -- of the first version
 abbrev pub in_one_object : List Told → List Told
@@ -31,3 +33,11 @@ top_text = mark_text_1 ++ (first_text ++ side_text)
 
 abbrev pub with_sidecar : List Told → List Told
 with_sidecar events = Made (place_path (V2 1 7 true)) top_text (pos 3) ∷ sidecar_made events
+
+-- one of the form V2 in Parquet, of the first version
+abbrev pub top_in_parquet : List Told → List Told
+top_in_parquet events = Made (place_path (V2 0 7 false)) top_file (pos 2) ∷ events
+
+-- what the file of a sidecar's name means
+abbrev pub side_alone : Action
+side_alone = action.Sidecar (record { path = codes "s.parquet"; size = pos 1; stamp = pos 2 })

@@ -1,4 +1,5 @@
--- Two small Parquet files, byte by byte (Apache Parquet, "File format"): of a protocol and a table's metadata, and of one data file.
+-- Small Parquet files, byte by byte (Apache Parquet, "File format"): of a protocol and a table's metadata, of one data file, of a sidecar's
+-- name, and of a version with a protocol and metadata.
 use Rattle.std.specs.Prelude.{ℕ, ℤ, pos, List, [], ◌∷◌, ◌++◌, length, codes, flat_map}
 use Rattle.dk_grammar.specs.Plain.{little}
 use Rattle.dk_grammar.specs.Spelling.{whole_bytes, binary_bytes, field_bytes, list_bytes, end_bytes}
@@ -142,3 +143,70 @@ add_footer = footer
 
 abbrev pub add_file : List ℕ
 add_file = framed add_pages add_footer
+
+-- ---- a sidecar's name
+
+abbrev pub name_page : List ℕ
+name_page = page 1 (plain_text (codes "s.parquet"))
+
+-- the pages stand at 4, 34 and 59
+abbrev pub side_pages : List ℕ
+side_pages = magic ++ (name_page ++ (number_page 1 ++ number_page 2))
+
+abbrev pub side_footer : List ℕ
+side_footer = footer
+    (root 1 ∷ group 0 (codes "sidecar") 3 ∷ leaf 6 (codes "path") ∷ leaf 2 (codes "sizeInBytes") ∷ leaf 2 (codes "modificationTime") ∷ [])
+    (chunk 6 (codes "sidecar") (codes "path") 1 30 4
+    ∷ chunk 2 (codes "sidecar") (codes "sizeInBytes") 1 25 34
+    ∷ chunk 2 (codes "sidecar") (codes "modificationTime") 1 25 59
+    ∷ [])
+    80 1
+
+abbrev pub side_file : List ℕ
+side_file = framed side_pages side_footer
+
+-- ---- a version, a protocol and a table's metadata
+
+-- of three rows the first, the second or the third has a value
+abbrev pub in_first_of_3 : List ℕ
+in_first_of_3 = 2 ∷ 1 ∷ 4 ∷ 0 ∷ []
+
+abbrev pub in_second_of_3 : List ℕ
+in_second_of_3 = 2 ∷ 0 ∷ 2 ∷ 1 ∷ 2 ∷ 0 ∷ []
+
+abbrev pub in_third_of_3 : List ℕ
+in_third_of_3 = 4 ∷ 0 ∷ 2 ∷ 1 ∷ []
+
+abbrev pub top_id_page : List ℕ
+top_id_page = page 3 (leveled in_third_of_3 (plain_text (codes "t")))
+
+abbrev pub top_schema_page : List ℕ
+top_schema_page = page 3 (leveled in_third_of_3 (plain_text (codes "s")))
+
+abbrev pub top_protocol_page : List ℕ
+top_protocol_page = page 3 (leveled in_second_of_3 (little 4 1))
+
+abbrev pub top_version_page : List ℕ
+top_version_page = page 3 (leveled in_first_of_3 (little 8 0))
+
+-- the pages stand at 4, 34, 64, 95 and 126
+abbrev pub top_pages : List ℕ
+top_pages = magic ++ (top_id_page ++ (top_schema_page ++ (top_protocol_page ++ (top_protocol_page ++ top_version_page))))
+
+abbrev pub top_footer : List ℕ
+top_footer = footer
+    (root 3
+    ∷ group 1 (codes "metaData") 2 ∷ leaf 6 (codes "id") ∷ leaf 6 (codes "schemaString")
+    ∷ group 1 (codes "protocol") 2 ∷ leaf 1 (codes "minReaderVersion") ∷ leaf 1 (codes "minWriterVersion")
+    ∷ group 1 (codes "checkpointMetadata") 1 ∷ leaf 2 (codes "version")
+    ∷ [])
+    (chunk 6 (codes "metaData") (codes "id") 3 30 4
+    ∷ chunk 6 (codes "metaData") (codes "schemaString") 3 30 34
+    ∷ chunk 1 (codes "protocol") (codes "minReaderVersion") 3 31 64
+    ∷ chunk 1 (codes "protocol") (codes "minWriterVersion") 3 31 95
+    ∷ chunk 2 (codes "checkpointMetadata") (codes "version") 3 33 126
+    ∷ [])
+    155 3
+
+abbrev pub top_file : List ℕ
+top_file = framed top_pages top_footer

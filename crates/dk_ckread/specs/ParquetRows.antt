@@ -1,4 +1,4 @@
--- The rows of the two files, as they are read for checkpoints.
+-- The rows of these files, as they are read for checkpoints.
 use Rattle.std.specs.Prelude.{false, [], ◌∷◌, codes}
 use Rattle.dk_pqmodel.specs.Datum.{flag, Datum, null, atom, Cells}
 use Rattle.dk_pqmodel.specs.RowView.{cells_of_list}
@@ -23,3 +23,15 @@ add_row =
 
 abbrev pub add_rows : Cells
 add_rows = cells_of_list (add_row ∷ [])
+
+abbrev pub side_row : Datum
+side_row = of (null ∷ null ∷ null ∷ null ∷ null ∷ null ∷ null ∷ of (text (codes "s.parquet") ∷ number 1 ∷ number 2 ∷ []) ∷ [])
+
+abbrev pub side_rows : Cells
+side_rows = cells_of_list (side_row ∷ [])
+
+abbrev pub version_row : Datum
+version_row = of (null ∷ null ∷ null ∷ null ∷ null ∷ null ∷ of (number 0 ∷ []) ∷ null ∷ [])
+
+abbrev pub top_rows : Cells
+top_rows = cells_of_list (version_row ∷ protocol_row ∷ metadata_row ∷ [])

@@ -1,4 +1,9 @@
-//! What is read of checkpoints: so far its laws, which hold whatever reads them.
+//! What is read of checkpoints: [`read_classic`] gives the actions of one in one object, and [`laws`] says what holds of
+//! whatever is read.
 #![tactic(auto)]
 
+mod fault;
 pub mod laws;
+mod read;
+
+pub use read::read_classic;

@@ -1,4 +1,4 @@
-use Rattle.dk_ckread.proofs.ParquetExample.{in_one_object_is_lawful, in_parts_is_lawful, parts_are_used, with_sidecar_is_lawful}
+use Rattle.dk_ckread.proofs.ParquetExample.{in_one_object_is_lawful, in_parts_is_lawful, parts_are_used, with_sidecar_is_lawful, top_in_parquet_is_lawful}
 use Rattle.dk_ckread.proofs.SidecarExample.{sidecar_gone_is_lawful}
 use Rattle.dk_ckread.proofs.laws.checkpoints_in_parquet_come.Goals as goal
 
@@ -16,3 +16,6 @@ returns-clause-with_sidecar c = with_sidecar_is_lawful
 
 pub returns-clause-sidecar_gone : goal.returns-clause-sidecar_gone
 returns-clause-sidecar_gone c = sidecar_gone_is_lawful
+
+pub returns-clause-top_in_parquet : goal.returns-clause-top_in_parquet
+returns-clause-top_in_parquet c = top_in_parquet_is_lawful

@@ -11,3 +11,6 @@ returns-clause-beyond c = forbidden.part_beyond
 
 pub returns-clause-other_rows : goal.returns-clause-other_rows
 returns-clause-other_rows c = other_rows
+
+pub returns-clause-names_sidecar : goal.returns-clause-names_sidecar
+returns-clause-names_sidecar c = forbidden.part_names_sidecar
