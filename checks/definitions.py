@@ -53,6 +53,16 @@ def entries(crate, names):
     return text
 
 
+def with_section(document, name, order):
+    """The document with a section for a crate, before that of the next crate in the order of crates.txt that has one."""
+    section = f"## {name}\n\n<!-- drawn from crates/{name}/specs -->\n<!-- end -->\n"
+    for later in order[order.index(name) + 1 :]:
+        before, heading, behind = document.partition(f"\n## {later}\n")
+        if heading:
+            return f"{before}\n{section}{heading}{behind}"
+    return f"{document}\n{section}"
+
+
 def main(write):
     crates = read_crates()
     names = cited(crates)
@@ -68,7 +78,7 @@ def main(write):
         if name not in blocks and text:
             behind += 1
             print(f"docs/DEFINITIONS.md has no block drawn from crates/{name}/specs")
-            document += f"\n## {name}\n\n<!-- drawn from crates/{name}/specs -->\n<!-- end -->\n"
+            document = with_section(document, name, list(crates))
         elif blocks.get(name, "") != text:
             behind += 1
             old, new = set(blocks[name].split("\n- ")), set(text.split("\n- "))

@@ -1,4 +1,5 @@
 pub mod Bits
+pub mod Counted
 pub mod Groups
 pub mod Made
 pub mod Numbers

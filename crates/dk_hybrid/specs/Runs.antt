@@ -1,5 +1,5 @@
 -- Runs as the code keeps them, and what decoding answers.
-use Rattle.std.specs.Prelude.{◌≡◌, ℕ, ◌*◌, ◌^◌, ◌<◌, ◌≤◌, List, ◌++◌, length, take, drop, replicate, min, ◌-◌, ◌==◌, if◌then◌else◌, Result, Ok, Err, ⊤}
+use Rattle.std.specs.Prelude.{◌≡◌, ℕ, ◌*◌, ◌^◌, ◌<◌, ◌≤◌, List, ◌++◌, length, take, drop, replicate, count_by, min, ◌-◌, ◌==◌, if◌then◌else◌, Result, Ok, Err, ⊤}
 use Rattle.dk_grammar.specs.Digits.{number_of, digits_of}
 use Rattle.dk_grammar.specs.Runs.{Run as Meant, values_in, bytes_for, IsRun}
 use Rattle.dk_hybrid.specs.declared.run.Run.{Run}
@@ -45,3 +45,10 @@ GivesValues view (Ok found) meant = view found ≡ meant
 GivesValues view (Err Width) meant = ⊥
 GivesValues view (Err Short) meant = ⊥
 GivesValues view (Err OutOfMemory) meant = ⊤
+
+-- so many of the values are equal to the wanted one, and these are so many, no more than asked for
+pub record Counts (wanted most : ℕ) (values : List ℕ) (equal passed : ℕ) : Type 0 where
+  pub found : equal ≡ count_by (λ value. value == wanted) values
+  pub all : passed ≡ length values
+  pub few : equal ≤ passed
+  pub within : passed ≤ most

@@ -1,6 +1,7 @@
 //! Runs of values, the hybrid encoding (RLE and bit packing) of levels and dictionary indices in Parquet, both ways.
 #![tactic(auto)]
 
+mod counting;
 mod decoding;
 mod encoding;
 mod fault;
@@ -10,6 +11,7 @@ mod packing;
 mod run;
 mod unpacking;
 
+pub use counting::count_equal;
 pub use decoding::decode;
 pub use encoding::encode;
 pub use fault::HybridFault;

@@ -350,10 +350,10 @@ module _ (before : List ℕ) (column : ColumnAt) (chunk : Chunk) where
         by_kind (inr (page, entries, at, holds, d)) = none_is_not_some page (sym none ∙ page_only before (first_place chunk) page at)
 
     module _ (page : Page) (found : page_at before (first_place chunk) ≡ Some page) where
-      same_first : (other : Page) → IsPageAt before (first_place chunk) other → other ≡ page
+      pub same_first : (other : Page) → IsPageAt before (first_place chunk) other → other ≡ page
       same_first other at = some_is other page (sym (page_only before (first_place chunk) other at) ∙ found)
 
-      first_is_data : (triples : Column) → DataFrom before column None (first_place chunk) chunk.values triples → is_dictionary page.kind ≡ true → ⊥
+      pub first_is_data : (triples : Column) → DataFrom before column None (first_place chunk) chunk.values triples → is_dictionary page.kind ≡ true → ⊥
       first_is_data triples d is =
           let f = data_first before column None (first_place chunk) chunk.values triples some d in
           let kind : is_data page.kind ≡ true = ap (λ (p : Page). is_data p.kind) (sym (same_first f.page f.at)) ∙ f.holds.kind in
@@ -368,7 +368,7 @@ module _ (before : List ℕ) (column : ColumnAt) (chunk : Chunk) where
       abbrev Behind : Column → Type 0
       Behind triples = (entries : List Value) × (EntriesHold column.kind page entries) × DataFrom before column (Some entries) page.next chunk.values triples
 
-      behind_dictionary : is_dictionary page.kind ≡ true → (triples : Column) → HasTriples before column chunk triples → Behind triples
+      pub behind_dictionary : is_dictionary page.kind ≡ true → (triples : Column) → HasTriples before column chunk triples → Behind triples
       behind_dictionary is triples h = by_kind (chunk_means before column chunk some triples h)
         where
           by_kind : ReadAs before column chunk triples → Behind triples

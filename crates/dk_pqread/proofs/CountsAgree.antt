@@ -12,7 +12,8 @@ use Rattle.dk_pqmodel.specs.Projection.{Plans, projected_fields}
 use Rattle.dk_pqread.specs.Counts.{may_have, chunk_agrees, group_agrees, groups_agree, have_rows, counts_agree}
 use Rattle.dk_pqread.proofs.DistinctPaths.{HasDistinctPaths}
 use Rattle.dk_pqread.proofs.Groups.{chunk_only}
-use Rattle.dk_pqread.proofs.RowStarts.{zero_at, starts, starts_behind, Each, triples_start}
+use Rattle.dk_pqread.specs.Starts.{zero_at, starts, Each}
+use Rattle.dk_pqread.proofs.RowStarts.{starts_behind, triples_start}
 
 pub rows_more : (a b : Cells) → rows_in (appended a b) ≡ rows_in a + rows_in b
 rows_more no_cells b = omega arith

@@ -29,10 +29,11 @@ pub mod PageTriples
 pub mod PartLaws
 pub mod PlainLaws
 pub mod PlainSteps
-pub mod RunReading
 pub mod RowStarts
+pub mod RunReading
 pub mod Scanning
 pub mod Shares
+pub mod Starting
 pub mod Unopposed
 pub mod ValueLaws
 pub mod ValueReading

@@ -7,22 +7,8 @@ use Rattle.dk_pqmodel.specs.FileMeans.{rows_in}
 use Rattle.dk_pqmodel.specs.Fits.{AreTriplesOf, Matches, MatchEach, MatchAll}
 use Rattle.dk_pqmodel.specs.Shape as shape
 use Rattle.dk_pqmodel.specs.Shape.{Shape, Field, field, Fields, no_fields, one_field, entry, root, width_at, width_in}
+use Rattle.dk_pqread.specs.Starts.{zero_at, starts, Each}
 use Rattle.dk_pqmodel.specs.Triples.{columns_joined, empty_columns, cell_triples, group_triples, list_triples, later_triples, reached}
-
--- one where it is 0
-abbrev pub zero_at : ℕ → ℕ
-zero_at zero = 1
-zero_at (suc n) = 0
-
--- how many rows begin in a column
-abbrev pub starts : Column → ℕ
-starts [] = 0
-starts (e ∷ es) = zero_at e.repetition + starts es
-
--- so many in each column
-abbrev pub Each : ℕ → List Column → Type 0
-Each n [] = Unit {0}
-Each n (c ∷ cs) = (starts c ≡ n) × Each n cs
 
 pub starts_behind : (a b : Column) → starts (a ++ b) ≡ starts a + starts b
 starts_behind [] b = omega arith

@@ -12,4 +12,5 @@ pub mod Meanings
 pub mod PageMeaning
 pub mod PlanView
 pub mod RowsMeaning
+pub mod Starts
 pub mod Values

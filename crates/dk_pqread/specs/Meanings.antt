@@ -17,6 +17,11 @@ abbrev pub Finds : {X Y : Type 0} → (X → Y) → Result X PqFault → (Y → 
 Finds view (Ok x) Means = Means (view x)
 Finds view (Err fault) Means = Refuses fault Means
 
+-- Whatever is meant has this number; or nothing is meant.
+abbrev pub Tells : {Y : Type 0} → (Y → ℕ) → Result ℕ PqFault → (Y → Type 0) → Type 0
+Tells {Y} number (Ok n) Means = (y : Y) → Means y → number y ≡ n
+Tells number (Err fault) Means = Refuses fault Means
+
 -- bytes begin with runs of so many numbers
 pub record HoldRuns (width count : ℕ) (bytes numbers : List ℕ) : Type 0 where
   pub runs : List ℕ

@@ -21,6 +21,7 @@ mod read;
 mod rows;
 mod runs;
 mod scan;
+mod starts;
 mod tree;
 mod values;
 mod widen;

@@ -11,6 +11,7 @@ ghost use Rattle.dk_pqmodel.specs.Reads.{Reads};
 use crate::counts::counts_agree;
 use crate::examine::{Examined, before_footer, examine};
 use crate::rows::read_groups;
+use crate::starts::rows_begin;
 use dk_pqmodel::{PqFault, Row, Schema};
 use std::alloc::Global;
 
@@ -41,6 +42,7 @@ fn read_file(alloc: Global, bytes: &[u8], wanted: &Schema) -> Result<Vec<Row>, P
     if !counts_agree(&columns, &footer.groups, footer.rows) {
         return Err(PqFault::Broken);
     }
+    rows_begin(alloc, before_footer(bytes), &columns, &footer.groups)?;
     let rows = read_groups(
         alloc,
         before_footer(bytes),

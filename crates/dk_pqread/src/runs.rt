@@ -1,10 +1,10 @@
 //! Numbers in runs: levels, flags, places in a dictionary.
 
-ghost use Rattle.std.specs.Prelude.{◌≡◌, ◌≤◌, length};
+ghost use Rattle.std.specs.Prelude.{◌≡◌, ◌<◌, ◌≤◌, ◌==◌, IfOk, count_by, length};
 ghost use Rattle.dk_pqmodel.specs.FilePages.{HoldLevels, IsWidth};
-ghost use Rattle.dk_pqread.specs.Meanings.{Finds, HoldRuns, full_count, levels_of};
+ghost use Rattle.dk_pqread.specs.Meanings.{Finds, Tells, HoldRuns, full_count, levels_of};
 
-use dk_hybrid::{HybridFault, decode};
+use dk_hybrid::{HybridFault, count_equal, decode};
 use dk_pqmodel::PqFault;
 use std::alloc::Global;
 
@@ -39,6 +39,25 @@ pub(crate) fn read_levels(
         return Ok(None);
     }
     Ok(Some(read_runs(alloc, bytes, width(greatest), count)?))
+}
+
+/// How many of so many levels up to the greatest are 0. Copies in runs are counted at once, and no level is kept.
+pub(crate) fn count_zeros(
+    alloc: Global,
+    greatest: u8,
+    bytes: &[u8],
+    count: usize,
+) -> Result<usize, PqFault>
+    requires { 0 < greatest }
+    ensures zeros { Tells (count_by (λ level. level == 0)) result (λ levels. (length levels ≡ count) × HoldLevels greatest levels bytes.now) }
+    ensures few { IfOk result (λ n. n ≤ count) }
+{
+    match count_equal(alloc, bytes, width(greatest), count, 0) {
+        Ok(zeros) => Ok(zeros),
+        Err(HybridFault::OutOfMemory) => Err(PqFault::OutOfMemory),
+        Err(HybridFault::Width) => Err(PqFault::Broken),
+        Err(HybridFault::Short) => Err(PqFault::Broken),
+    }
 }
 
 /// How many bits a level has: the least number that has room for the greatest.

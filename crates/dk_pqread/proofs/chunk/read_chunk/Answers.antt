@@ -1,4 +1,5 @@
-use Rattle.std.proofs.Common.{◌≡◌, None, Some, rules, map, sym, subst, arith}
+use Rattle.std.proofs.Common.{◌≡◌, ◌∙◌, None, Some, pos, rules, map, sym, ap, subst, to_z, w32, arith}
+use Rattle.std.proofs.lemmas.Int.{to_z-of_z}
 use Rattle.std.proofs.lemmas.Result.{err_from_is_err_and}
 use Rattle.dk_pqmodel.specs.Pages.{page_at}
 use Rattle.dk_pages.specs.Pages.{page_of}
@@ -28,8 +29,11 @@ returns-in-Err c =
 pub returns-then-not-is_dictionary : goal.returns-then-not-is_dictionary
 returns-then-not-is_dictionary c =
     let found = subst (λ n. page_at c.args.before.now n ≡ Some (page_of c.in-Ok.first)) c.first_place-place.ensures c.in-Ok.ensures.exact in
+    let plain : c.args.chunk.now.codec ≡ pos 0 = sym (to_z-of_z w32 c.args.chunk.now.codec (search rules)) ∙ ap (to_z w32) c.if-chunk-ne0.false in
+    let typed : c.args.chunk.now.physical ≡ c.physical_type.result =
+    sym (to_z-of_z w32 c.args.chunk.now.physical (search rules)) ∙ ap (to_z w32) c.if-chunk-physical_type.false ∙ to_z-of_z w32 c.physical_type.result (search rules) in
     let read = subst (λ n. Finds column_of c.read_data.result (DataFrom c.args.before.now (column_at c.args.column.now) None n c.args.chunk.now.values)) c.first_place-place.ensures c.read_data.ensures in
-    data_chunk c.args.before.now (column_at c.args.column.now) (chunk_view c.args.chunk.now) (omega (arith, c.if-chunk-eq0.false)) (page_of c.in-Ok.first) found (search rules) (search rules) column_of
+    data_chunk c.args.before.now (column_at c.args.column.now) (chunk_view c.args.chunk.now) (omega (arith, c.if-chunk-eq0.false)) (page_of c.in-Ok.first) found plain (typed ∙ c.physical_type.ensures) column_of
     c.read_data.result (search rules) read
 
 pub returns-in_err-entries : goal.returns-in_err-entries
