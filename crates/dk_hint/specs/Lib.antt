@@ -1,0 +1,3 @@
+pub mod Canonical
+pub mod Spelled
+pub mod Example
