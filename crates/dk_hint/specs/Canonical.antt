@@ -1,47 +1,47 @@
--- The canonical text of a JSON value (Delta Lake's PROTOCOL.md, "JSON checksum"): each plain value under its path, sorted.
-use Rattle.std.specs.Prelude.{ℕ, ◌+◌, ◌/◌, ◌%◌, List, [], ◌∷◌, ◌++◌, Bool, true, false, ◌&&◌, ◌||◌, ◌==◌, nat_le, codes, decimal, if◌then◌else◌}
+-- The canonical text of a JSON object (Delta Lake's PROTOCOL.md, "JSON checksum"): each plain value under its path, sorted by the bytes.
+use Rattle.std.specs.Prelude.{ℕ, ℤ, ◌+◌, List, [], ◌∷◌, ◌++◌, drop, Bool, Option, Some, None, codes, decimal, if◌then◌else◌}
 use Rattle.std.specs.Ordering.{nat_cmp, match_ordering}
 use Rattle.std.specs.Cmp.Lexicographic.{slice_cmp}
-use Rattle.std.specs.Fmt.{digit_glyph}
-use Rattle.std.specs.List.{flat_map}
+use Rattle.std.specs.Fmt.{signed_decimal}
+use Rattle.std.specs.Str.{bytes_eq}
+use Rattle.percent_encoding.specs.declared.ascii_set.AsciiSet.{AsciiSet}
+use Rattle.percent_encoding.specs.Percent.{percent_encode}
 use Rattle.serde_json.specs.Data.{Data, null, boolean, number, string, array, object, Items, no_items, item, Members, no_members, member}
-use Rattle.serde_json.specs.Written.{number_text}
+use Rattle.dk_model.specs.Fields.{whole}
 
 -- ---- texts between quotes
 
--- ASCII letters, digits and - . _ ~
-abbrev pub is_unreserved : ℕ → Bool
-is_unreserved b = (nat_le 65 b && nat_le b 90) || (nat_le 97 b && nat_le b 122) || (nat_le 48 b && nat_le b 57) || b == 45 || b == 46 || b == 95 || b == 126
-
--- the byte, or % and its two upper-case hexadecimal digits
-abbrev pub escaped_byte : ℕ → List ℕ
-escaped_byte b = if is_unreserved b then b ∷ [] else 37 ∷ digit_glyph true (b / 16 % 16) ∷ digit_glyph true (b % 16) ∷ []
-
-abbrev pub escaped : List ℕ → List ℕ
-escaped [] = []
-escaped (b ∷ bs) = escaped_byte b ++ escaped bs
+-- every ASCII byte but the letters, the digits and - . _ ~
+abbrev pub escaped_set : AsciiSet
+escaped_set = record { mask = 244577951340790884343731678625228914687 }
 
 abbrev pub quoted : List ℕ → List ℕ
-quoted text = 34 ∷ escaped text ++ 34 ∷ []
+quoted text = (codes "\"" ++ percent_encode escaped_set text) ++ codes "\""
 
 -- ---- paths and their values
 
 -- one step further along a path
 abbrev pub along : List ℕ → List ℕ → List ℕ
-along [] step = step
-along (b ∷ path) step = (b ∷ path) ++ 43 ∷ step
+along path step = (path ++ codes "+") ++ step
 
-abbrev pub plain_pair : List ℕ → List ℕ → List (List ℕ)
-plain_pair path value = (path ++ 61 ∷ value) ∷ []
+abbrev pub pair_of : List ℕ → List ℕ → List ℕ
+pair_of path value = (path ++ codes "=") ++ value
+
+-- one that isn't whole has no text: a hint with such a number and a checksum isn't read
+abbrev pub whole_text : Option ℤ → List ℕ
+whole_text None = codes ""
+whole_text (Some n) = signed_decimal n
+
+abbrev pub flag_text : Bool → List ℕ
+flag_text flag = if flag then codes "true" else codes "false"
 
 abbrev mutual
   -- the pairs of a value that stands at a path
   pub pairs_at : List ℕ → Data → List (List ℕ)
-  pairs_at path null = plain_pair path (codes "null")
-  pairs_at path (boolean true) = plain_pair path (codes "true")
-  pairs_at path (boolean false) = plain_pair path (codes "false")
-  pairs_at path (number n) = plain_pair path (number_text n)
-  pairs_at path (string s) = plain_pair path (quoted s)
+  pairs_at path null = pair_of path (codes "null") ∷ []
+  pairs_at path (boolean flag) = pair_of path (flag_text flag) ∷ []
+  pairs_at path (number n) = pair_of path (whole_text (whole (number n))) ∷ []
+  pairs_at path (string s) = pair_of path (quoted s) ∷ []
   pairs_at path (array ds) = pairs_from path 0 ds
   pairs_at path (object ms) = pairs_under path ms
 
@@ -53,22 +53,29 @@ abbrev mutual
   pairs_under path no_members = []
   pairs_under path (member k d ms) = pairs_at (along path (quoted k)) d ++ pairs_under path ms
 
+abbrev pub is_checksum_key : List ℕ → Bool
+is_checksum_key key = bytes_eq key (codes "checksum")
+
+-- those of an object, but for its checksum
+abbrev pub top_pairs : Members → List (List ℕ)
+top_pairs no_members = []
+top_pairs (member k d ms) = if is_checksum_key k then top_pairs ms else pairs_at (quoted k) d ++ top_pairs ms
+
 -- ---- the text
 
 -- at its place by the bytes
 abbrev pub put_sorted : List ℕ → List (List ℕ) → List (List ℕ)
 put_sorted pair [] = pair ∷ []
-put_sorted pair (p ∷ ps) = match_ordering (slice_cmp nat_cmp pair p) (pair ∷ p ∷ ps) (pair ∷ p ∷ ps) (p ∷ put_sorted pair ps)
+put_sorted pair (p ∷ ps) = match_ordering (slice_cmp nat_cmp pair p) (pair ∷ p ∷ ps) (p ∷ ps) (p ∷ put_sorted pair ps)
 
-abbrev pub sorted_pairs : List (List ℕ) → List (List ℕ)
-sorted_pairs [] = []
-sorted_pairs (p ∷ ps) = put_sorted p (sorted_pairs ps)
+abbrev pub sorted_onto : List (List ℕ) → List (List ℕ) → List (List ℕ)
+sorted_onto sorted [] = sorted
+sorted_onto sorted (p ∷ ps) = sorted_onto (put_sorted p sorted) ps
+
+abbrev pub behind_commas : List (List ℕ) → List ℕ
+behind_commas [] = []
+behind_commas (p ∷ ps) = codes "," ++ (p ++ behind_commas ps)
 
 -- with commas between them
-abbrev pub with_commas : List (List ℕ) → List ℕ
-with_commas [] = []
-with_commas (p ∷ []) = p
-with_commas (p ∷ (q ∷ ps)) = p ++ 44 ∷ with_commas (q ∷ ps)
-
-abbrev pub canonical_text : Data → List ℕ
-canonical_text d = with_commas (sorted_pairs (pairs_at [] d))
+abbrev pub canonical_text : Members → List ℕ
+canonical_text members = drop 1 (behind_commas (sorted_onto [] (top_pairs members)))

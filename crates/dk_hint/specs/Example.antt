@@ -1,12 +1,11 @@
 -- Worked hints.
-use Rattle.std.specs.Prelude.{◌≡◌, ℕ, List, Some, None, codes}
-use Rattle.serde_json.specs.Data.{Data, null, boolean, number, string, array, object, no_items, item, no_members, member, unsigned}
+use Rattle.std.specs.Prelude.{◌≡◌, Some, None, codes}
+use Rattle.serde_json.specs.Data.{Members, null, number, string, array, object, no_items, item, no_members, member, unsigned}
 use Rattle.dk_hint.specs.Canonical.{canonical_text}
 use Rattle.dk_hint.specs.Spelled.{hint_in, hint_with}
-use Rattle.std.specs.Prelude.{true}
 
-abbrev pub with_lists : Data
-with_lists = object (member (codes "a b") (array (item (number (unsigned 5)) (item null no_items))) (member (codes "c") (object no_members) (member (codes "B") (string (codes "x/y")) no_members)))
+abbrev pub with_lists : Members
+with_lists = (member (codes "a b") (array (item (number (unsigned 5)) (item null no_items))) (member (codes "c") (object no_members) (member (codes "B") (string (codes "x/y")) no_members)))
 
 abbrev pub CanonicalTextIs : Type 0
 CanonicalTextIs = canonical_text with_lists ≡ codes "\"B\"=\"x%2Fy\",\"a%20b\"+0=5,\"a%20b\"+1=null"

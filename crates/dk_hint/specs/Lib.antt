@@ -1,3 +1,4 @@
 pub mod Canonical
 pub mod Spelled
+pub mod Sorted
 pub mod Example

@@ -1,5 +1,5 @@
 -- What the bytes of a hint mean (Delta Lake's PROTOCOL.md, "Last Checkpoint File").
-use Rattle.std.specs.Prelude.{ℕ, ◌^◌, List, [], ◌∷◌, ◌++◌, Bool, true, false, not, ◌&&◌, Option, Some, None, option_map, option_and_then, nat_le, nat_lt, is_some, codes, if◌then◌else◌}
+use Rattle.std.specs.Prelude.{ℕ, ◌^◌, List, Bool, true, false, ◌&&◌, Option, Some, None, option_map, option_and_then, nat_le, is_some, codes, if◌then◌else◌}
 use Rattle.std.specs.Str.{is_utf8, bytes_eq}
 use Rattle.hex.specs.Hex.{encode_lower}
 use Rattle.md5.specs.Md5.{md5}
@@ -31,15 +31,6 @@ fields_of_hint d =
 
 -- ---- the checksum
 
--- without the key at the top
-abbrev pub members_without : List ℕ → Members → Members
-members_without key no_members = no_members
-members_without key (member k d ms) = if bytes_eq k key then members_without key ms else member k d (members_without key ms)
-
-abbrev pub without : List ℕ → Data → Data
-without key (object ms) = object (members_without key ms)
-without key d = d
-
 abbrev mutual
   -- each number is a whole one in the range of i64
   pub is_whole_throughout : Data → Bool
@@ -59,22 +50,26 @@ abbrev mutual
   members_are_whole (member k d ms) = is_whole_throughout d && members_are_whole ms
 
 -- 32 lower-case hexadecimal digits
-abbrev pub checksum_of : Data → List ℕ
-checksum_of d = encode_lower (md5 (canonical_text (without (codes "checksum") d)))
+abbrev pub checksum_of : Members → List ℕ
+checksum_of members = encode_lower (md5 (canonical_text members))
 
-abbrev pub is_checksum : Data → Option (List ℕ) → Bool
-is_checksum d None = false
-is_checksum d (Some text) = is_whole_throughout d && bytes_eq text (checksum_of d)
+abbrev pub is_checksum : Members → Option (List ℕ) → Bool
+is_checksum top None = false
+is_checksum top (Some text) = members_are_whole top && bytes_eq text (checksum_of top)
 
 -- where there is a checksum, it is that of the rest
-abbrev pub agrees_with : Data → Option Data → Bool
-agrees_with d None = true
-agrees_with d (Some sum) = is_checksum d (as_str sum)
+abbrev pub agrees_with : Members → Option Data → Bool
+agrees_with top None = true
+agrees_with top (Some sum) = is_checksum top (as_str sum)
 
 -- ---- the bytes
 
 abbrev pub hint_in : Data → Option Hint
-hint_in d = if agrees_with d (get (codes "checksum") d) then fields_of_hint d else None
+hint_in (object top) = if agrees_with top (get (codes "checksum") (object top)) then fields_of_hint (object top) else None
+hint_in d = None
+
+abbrev pub hint_in_text : List ℕ → Option Hint
+hint_in_text text = option_and_then hint_in (read text)
 
 abbrev pub hint_of : List ℕ → Option Hint
-hint_of bytes = if is_utf8 bytes then option_and_then hint_in (read bytes) else None
+hint_of bytes = if is_utf8 bytes then hint_in_text bytes else None
