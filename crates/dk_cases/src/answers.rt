@@ -8,6 +8,7 @@ use crate::names::{
 };
 use crate::row::{number_at, text_at, value_at};
 use crate::states::state_answer;
+use crate::sums::sum_answer;
 use crate::trouble::Trouble;
 use serde_json::Value;
 use std::alloc::Global;
@@ -33,6 +34,7 @@ pub(crate) fn answer(alloc: Global, row: &Value) -> Result<String, Trouble> {
         "value" => value_answer(alloc, value_at(row, "given")?),
         "own" => own_answer(alloc, row),
         "state" => state_answer(alloc, row),
+        "sum" => sum_answer(alloc, row),
         "support" => support_answer(alloc, row),
         "force" => force_answer(alloc, row),
         "keeps" => keeps_answer(alloc, row),

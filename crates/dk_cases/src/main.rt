@@ -10,6 +10,7 @@ mod files;
 mod names;
 mod row;
 mod states;
+mod sums;
 mod trouble;
 
 use std::process::ExitCode;

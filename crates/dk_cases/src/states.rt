@@ -50,7 +50,7 @@ fn shown(alloc: Global, state: &TableState) -> Result<String, Trouble> {
     text_of(out)
 }
 
-fn commit_at(alloc: Global, row: &Value, key: &str) -> Result<Commit, Trouble> {
+pub(crate) fn commit_at(alloc: Global, row: &Value, key: &str) -> Result<Commit, Trouble> {
     match read_commit(alloc, text_at(row, key)?.as_bytes()) {
         Ok(commit) => Ok(commit),
         Err(_) => Err(Trouble::Row),

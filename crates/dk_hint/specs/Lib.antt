@@ -1,0 +1,4 @@
+pub mod Canonical
+pub mod Spelled
+pub mod Sorted
+pub mod Example
