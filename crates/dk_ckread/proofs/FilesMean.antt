@@ -632,12 +632,15 @@ top_file_means = record {
   spelled = top_spelled;
   fitting = refl;
   shares = top_own ∷ [];
-  held = (record {
-    columns = top_columns;
-    held = top_held;
-    triples = (((refl, (refl, ((refl, tt), tt))), ((refl, ((refl, (refl, tt)), (refl, tt))), (((refl, (refl, tt)), (refl, (refl, tt))), tt))), refl);
-    count = refl;
-  }, tt);
+  held = (
+    record {
+      columns = top_columns;
+      held = top_held;
+      triples = (((refl, (refl, ((refl, tt), tt))), ((refl, ((refl, (refl, tt)), (refl, tt))), (((refl, (refl, tt)), (refl, (refl, tt))), tt))), refl);
+      count = refl;
+    },
+    tt,
+  );
   count = refl;
   widened = refl;
 }

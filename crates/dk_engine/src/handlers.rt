@@ -37,13 +37,23 @@ pub trait ParquetHandler: Drop {
     /// structure in the file, `Compressed` where one has a codec, `Encoding` where a page of one has an encoding that
     /// isn't read, and `Broken` where none of these applies and yet no rows are meant. There is no other refusal but
     /// `OutOfMemory`.
-    fn read_rows(&mut self, alloc: Global, bytes: &[u8], wanted: &Schema) -> Result<Vec<Row>, PqFault>
+    fn read_rows(
+        &mut self,
+        alloc: Global,
+        bytes: &[u8],
+        wanted: &Schema,
+    ) -> Result<Vec<Row>, PqFault>
         ensures { Reads (fields_in wanted.now) bytes.now result };
 
     /// The bytes of a file that holds the rows. They fit the schema, and weigh at most 1,073,741,824: 16 for each of their
     /// cells at every depth, and the length of its text. The bytes are at most 1,024; for each node of the schema 1,024
     /// and twice the lengths of the names on its path; for each entry of a column 64 and the length of its text.
-    fn write_rows(&mut self, alloc: Global, schema: &Schema, rows: &[Row]) -> Result<Vec<u8>, AllocError>
+    fn write_rows(
+        &mut self,
+        alloc: Global,
+        schema: &Schema,
+        rows: &[Row],
+    ) -> Result<Vec<u8>, AllocError>
         requires fit { Fit (fields_in schema.now) (rows_of rows.now) }
         requires light { weight (rows_of rows.now) ≤ most_weight }
         ensures means { IfOk result (λ v. FileMeans (fields_in schema.now) v.items (rows_of rows.now)) }

@@ -18,11 +18,21 @@ impl PlainParquet {
 }
 
 impl ParquetHandler for PlainParquet {
-    fn read_rows(&mut self, alloc: Global, bytes: &[u8], wanted: &Schema) -> Result<Vec<Row>, PqFault> {
+    fn read_rows(
+        &mut self,
+        alloc: Global,
+        bytes: &[u8],
+        wanted: &Schema,
+    ) -> Result<Vec<Row>, PqFault> {
         read_rows(alloc, bytes, wanted)
     }
 
-    fn write_rows(&mut self, alloc: Global, schema: &Schema, rows: &[Row]) -> Result<Vec<u8>, AllocError> {
+    fn write_rows(
+        &mut self,
+        alloc: Global,
+        schema: &Schema,
+        rows: &[Row],
+    ) -> Result<Vec<u8>, AllocError> {
         write_rows(alloc, schema, rows, false)
     }
 }

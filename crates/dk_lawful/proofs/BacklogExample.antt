@@ -45,7 +45,7 @@ AtNext place = (Staged 2 5 ≡ place) ⊎ AtCatalogued place
 none_at_next : (held : List ℕ) → Holds catalogued (Staged 2 5) held → ⊥
 none_at_next held holds = elim (only_catalogued (Staged 2 5) held holds) [
   | inl is ↦ other_staged 8 is
-  | inr rest ↦ elim rest [ | inl is ↦ other_staged 7 is | inr is ↦ let no : Commit_at 0 ≡ Staged 2 5 = is in cc ]
+  | inr rest ↦ elim rest [ inl is ↦ other_staged 7 is | inr is ↦ let no : Commit_at 0 ≡ Staged 2 5 = is in cc ]
 ]
   where
     other_staged : (id : ℕ) → Staged 1 id ≡ Staged 2 5 → ⊥

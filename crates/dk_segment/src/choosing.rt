@@ -34,7 +34,14 @@ fn steps_after(
     listing.note_rising();
     let reaches = index_compacted(alloc, &listing.log, choice.compacted, version)?;
     let first = begins_at(base);
-    walk_to(alloc, &commits, &reaches, first, version, choice.staged_first)
+    walk_to(
+        alloc,
+        &commits,
+        &reaches,
+        first,
+        version,
+        choice.staged_first,
+    )
 }
 
 /// What a version is read from, by a listing of the whole log (Delta Lake's PROTOCOL.md, "Delta Log Entries", "Checkpoints",
