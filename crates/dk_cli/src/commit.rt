@@ -10,6 +10,7 @@ ghost use Rattle.dk_txn.specs.Commits.{Commits, RoseTwice, SaysHistory};
 ghost use Rattle.dk_cli.specs.Actions.{actions_of, InputEnds, TakesActions};
 ghost use Rattle.dk_cli.specs.Commit.{CommitAnswers, CommitEnds, EndsTransacting, GivesLine, InputFirst, InputSays, InputTransacts, SaysEnd, SaysOnce};
 ghost use Rattle.dk_cli.specs.Effects.{PutsInStore, ReadsSource, TakesFromSource, WritesToSink};
+ghost use Rattle.dk_cli.specs.Equipment.{KeepsEquipment};
 ghost use Rattle.dk_cli.specs.Endings.{CommitMayEnd};
 ghost use Rattle.dk_txn.specs.Refusals.{CommitAtLatestRefuses};
 ghost use Rattle.dk_txn.specs.Transactions.{Transacts};
@@ -20,7 +21,7 @@ use crate::text::committed_text;
 use dk_conflicts::Reads;
 use dk_engine::{Engine, Refusal};
 use dk_model::Commit;
-use dk_store::{Failed, Sink, Source, Store, give_all};
+use dk_store::{Failed, Sink, Source, give_all};
 use dk_txn::{Committed, commit_at_latest};
 use std::alloc::Global;
 
@@ -40,7 +41,7 @@ fn commit(
     ensures transacts { Transacts engine.old.limits now reads actions base (seen (held engine.old.store)).told result (seen (held engine.new.store)).told }
     ensures lawful { KeepsLawful (seen (held engine.old.store)).told (seen (held engine.new.store)).told }
     ensures history { IfBoth (seen (held engine.old.store)).told (seen (held engine.new.store)).told (SaysHistory (own_commit base actions) result) }
-    ensures limits { engine.new.limits ≡ engine.old.limits }
+    ensures equipment { KeepsEquipment engine.old engine.new }
 {
     let limits = engine.limits;
     commit_at_latest(
@@ -88,7 +89,7 @@ fn commit_actions<O: Sink>(
     ensures lawful { KeepsLawful (seen (held engine.old.store)).told (seen (held engine.new.store)).told }
     ensures history { IfBoth (seen (held engine.old.store)).told (seen (held engine.new.store)).told (SaysEnd (own_commit base actions) result (O.sink_seen out.old).taken (O.sink_seen out.new).taken) }
     ensures once { IfBoth (seen (held engine.old.store)).told (seen (held engine.new.store)).told (SaysOnce base result) }
-    ensures limits { engine.new.limits ≡ engine.old.limits }
+    ensures equipment { KeepsEquipment engine.old engine.new }
 {
     match commit(alloc, engine, reads, actions, now, base) {
         Err(refusal) => Status::Refused(refusal),
@@ -107,7 +108,7 @@ fn read_actions<I: Source>(
     ensures reads { ReadsSource (engine.old.limits.input + 1) (I.source_seen input.old) (I.source_seen input.new) result }
     ensures ends { IfErr result InputEnds }
     ensures same { engine.new.store ≡ engine.old.store }
-    ensures limits { engine.new.limits ≡ engine.old.limits }
+    ensures equipment { KeepsEquipment engine.old engine.new }
 {
     take_actions(alloc, &mut *engine.json, input, engine.limits)
 }
@@ -136,7 +137,7 @@ pub(crate) fn commit_command<I: Source, O: Sink>(
     ensures history { IfSome (I.source_seen input.old).left (λ left. IfBoth (seen (held engine.old.store)).told (seen (held engine.new.store)).told
         (InputSays (actions_of engine.old.limits left) base result (O.sink_seen out.old).taken (O.sink_seen out.new).taken)) }
     ensures once { IfBoth (seen (held engine.old.store)).told (seen (held engine.new.store)).told (SaysOnce base result) }
-    ensures limits { engine.new.limits ≡ engine.old.limits }
+    ensures equipment { KeepsEquipment engine.old engine.new }
 {
     match read_actions(alloc, engine, input) {
         Err(status) => status,
