@@ -25,6 +25,7 @@ use crate::words::{Command, command_of};
 use dk_engine::Engine;
 use dk_lawful::Choice;
 use dk_store::{Failed, Sink, Source, give_all};
+use dk_txn::{CommitOptions, Intent};
 use std::alloc::Global;
 
 /// Makes the whole output of `show`, and then gives it to the sink.
@@ -98,7 +99,7 @@ pub fn run<I: Source, O: Sink>(
     ensures input_first { TakesInput words.now → IfSome (I.source_seen input.old).left (λ left. InputFirst (actions_of engine.old.limits left) result engine.old.store engine.new.store) }
     ensures lawful { KeepsLawfulPast (cut_for (asked words.now)) (seen (held engine.old.store)).told (seen (held engine.new.store)).told }
     ensures history { (reads : Reads) → Asks words.now (commands.Commit reads) → IfSome (I.source_seen input.old).left (λ left. IfBoth (seen (held engine.old.store)).told (seen (held engine.new.store)).told
-        (InputSays (actions_of engine.old.limits left) base result (O.sink_seen out.old).taken (O.sink_seen out.new).taken)) }
+        (InputSays (actions_of engine.old.limits left) now base result (O.sink_seen out.old).taken (O.sink_seen out.new).taken)) }
     ensures once { (reads : Reads) → Asks words.now (commands.Commit reads) → IfBoth (seen (held engine.old.store)).told (seen (held engine.new.store)).told (SaysOnce base result) }
 
     // What it touches, and what stays as it was.
@@ -114,7 +115,10 @@ pub fn run<I: Source, O: Sink>(
         None => Status::Usage,
         Some(Command::Show { at, choice }) => show_command(alloc, engine, out, at, &choice, now),
         Some(Command::Commit { reads }) => {
-            commit_command(alloc, engine, input, out, reads, now, base)
+            let limits = engine.limits;
+            let options = CommitOptions { limits, now };
+            let intent = Intent { reads, id: base };
+            commit_command(alloc, engine, input, out, options, intent)
         }
     }
 }
