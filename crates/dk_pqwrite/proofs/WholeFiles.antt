@@ -17,9 +17,9 @@ use Rattle.dk_pqmodel.specs.Triples.{triples}
 use Rattle.dk_pqmodel.specs.Weight.{most_bytes}
 use Rattle.dk_pqwrite.specs.Said.{FileSaid}
 use Rattle.dk_pqwrite.specs.declared.chunk.Chunk.{Chunk}
-use Rattle.dk_pqwrite.specs.Chunks.{chunk_view, path_of_chunk}
+use Rattle.dk_pqwrite.specs.Chunks.{chunk_with_path, path_of_chunk}
 use Rattle.dk_pqwrite.specs.Footers.{EndsFile, footer_of, footer_size}
-use Rattle.dk_pqwrite.specs.OverItself.{own_plans, path_of}
+use Rattle.dk_pqwrite.specs.OverItself.{own_plans, column_path}
 use Rattle.dk_pqwrite.specs.Written.{written_nodes}
 use Rattle.dk_pqwrite.specs.WrittenColumns.{AreHeld, WritesColumns}
 use Rattle.dk_pqwrite.proofs.BareRows.{own_triples, own_widened}
@@ -39,16 +39,16 @@ others_same x y xs ys e = ap (drop 1) e
 abbrev Among : List (Path × plain.Chunk) → List (Path × plain.Chunk) → Type 0
 Among all xs = All (Contains all) xs
 
-held_columns : (before : List ℕ) (rows : ℕ) (all : List (Path × plain.Chunk)) (cs : List ColumnAt) (ts : List Column) (ks : List Chunk) → AreHeld before cs ts ks → map path_of_chunk ks ≡ map path_of cs
-    → Among all (map chunk_view ks) → HasColumns before (record { rows = rows; columns = all }) cs ts
+held_columns : (before : List ℕ) (rows : ℕ) (all : List (Path × plain.Chunk)) (cs : List ColumnAt) (ts : List Column) (ks : List Chunk) → AreHeld before cs ts ks → map path_of_chunk ks ≡ map column_path cs
+    → Among all (map chunk_with_path ks) → HasColumns before (record { rows = rows; columns = all }) cs ts
 held_columns before rows all [] [] [] h paths among = tt
 held_columns before rows all (c ∷ cs) (t ∷ ts) (k ∷ ks) h paths among = (
   (
-    (chunk_view k).1,
-    subst (λ path. Contains all (path, (chunk_view k).1)) (first_same (path_of_chunk k) (path_of c) (map path_of_chunk ks) (map path_of cs) paths) (All-head (Contains all) (chunk_view k) (map chunk_view ks) among),
+    (chunk_with_path k).1,
+    subst (λ path. Contains all (path, (chunk_with_path k).1)) (first_same (path_of_chunk k) (column_path c) (map path_of_chunk ks) (map column_path cs) paths) (All-head (Contains all) (chunk_with_path k) (map chunk_with_path ks) among),
     h.0,
   ),
-  held_columns before rows all cs ts ks h.1 (others_same (path_of_chunk k) (path_of c) (map path_of_chunk ks) (map path_of cs) paths) (All-tail (Contains all) (chunk_view k) (map chunk_view ks) among),
+  held_columns before rows all cs ts ks h.1 (others_same (path_of_chunk k) (column_path c) (map path_of_chunk ks) (map column_path cs) paths) (All-tail (Contains all) (chunk_with_path k) (map chunk_with_path ks) among),
 )
 held_columns before rows all (c ∷ cs) [] ks h paths among = absurd h
 held_columns before rows all (c ∷ cs) (t ∷ ts) [] h paths among = absurd h
@@ -63,18 +63,18 @@ nothing_behind (one_cell row rows) = ap (one_cell row) (nothing_behind rows)
 
 module _ (fs : Fields) (rows : Cells) (count : ℕ) (ks : List Chunk) (before bytes : List ℕ) (is : IsSchema fs) (form : AreRowsOf fs rows) (counted : rows_in rows ≡ count) (said : FileSaid) where
   abbrev group : RowGroup
-  group = record { rows = count; columns = map chunk_view ks }
+  group = record { rows = count; columns = map chunk_with_path ks }
 
-  share : AreHeld before (columns_of (own_plans fs []) 0 0) (triples fs rows) ks → map path_of_chunk ks ≡ map path_of (columns_of (own_plans fs []) 0 0) → HasRows before (projection fs (written_nodes fs)) group rows
+  share : AreHeld before (columns_of (own_plans fs []) 0 0) (triples fs rows) ks → map path_of_chunk ks ≡ map column_path (columns_of (own_plans fs []) 0 0) → HasRows before (projection fs (written_nodes fs)) group rows
   share held paths = record {
     columns = triples fs rows;
     held = subst (λ plans. HasColumns before group (columns_of plans 0 0) (triples fs rows)) (sym (own_projection fs is))
-        (held_columns before count (map chunk_view ks) (columns_of (own_plans fs []) 0 0) (triples fs rows) ks held paths (All-contains_itself (map chunk_view ks)));
+        (held_columns before count (map chunk_with_path ks) (columns_of (own_plans fs []) 0 0) (triples fs rows) ks held paths (All-contains_itself (map chunk_with_path ks)));
     triples = own_triples fs rows is form;
     count = counted;
   }
 
-  means_rows : AreHeld before (columns_of (own_plans fs []) 0 0) (triples fs rows) ks → map path_of_chunk ks ≡ map path_of (columns_of (own_plans fs []) 0 0) → EndsFile (footer_of fs count ks) said before bytes → FileMeans fs bytes rows
+  means_rows : AreHeld before (columns_of (own_plans fs []) 0 0) (triples fs rows) ks → map path_of_chunk ks ≡ map column_path (columns_of (own_plans fs []) 0 0) → EndsFile (footer_of fs count ks) said before bytes → FileMeans fs bytes rows
   means_rows held paths ends = record {
     before = before;
     part = ends.0;

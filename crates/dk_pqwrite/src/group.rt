@@ -5,7 +5,7 @@ ghost use Rattle.dk_grammar.specs.Lists.{SpellsEach, SpellsListOf};
 ghost use Rattle.dk_pqwrite.specs.Said.{SpellsChunkSaid, SpellsGroupSaid};
 ghost use Rattle.dk_pqwrite.specs.Chunks.{IsFit, chunk_said, group_said, path_of_chunk};
 ghost use Rattle.dk_pqwrite.specs.FooterSizes.{chunk_size};
-ghost use Rattle.dk_pqwrite.specs.Items.{PutsHeld, Writes};
+ghost use Rattle.dk_pqwrite.specs.Items.{PutsHeld, WritesValue};
 ghost use Rattle.dk_thrift.specs.Writing.{IsOpen};
 
 use crate::chunk::{Chunk, count, write_chunk};
@@ -43,7 +43,7 @@ fn write_group(
     requires rows { rows < 2 ^ 63 }
     requires size { size < 2 ^ 63 }
     requires fit { All IsFit chunks.now }
-    ensures { OnOk result (Writes SpellsGroupSaid (group_said chunks.now size rows) (30 + sum_by chunk_size (map path_of_chunk chunks.now)) writer.old writer.new) }
+    ensures { OnOk result (WritesValue SpellsGroupSaid (group_said chunks.now size rows) (30 + sum_by chunk_size (map path_of_chunk chunks.now)) writer.old writer.new) }
 {
     writer.enter()?;
     put_chunks(writer, chunks)?;
@@ -70,7 +70,7 @@ fn put_chunks(writer: &mut Writer, chunks: &[Chunk]) -> Result<(), AllocError>
 fn write_chunks(writer: &mut Writer, chunks: &[Chunk]) -> Result<(), AllocError>
     requires in_struct { IsOpen writer.old }
     requires fit { All IsFit chunks.now }
-    ensures { OnOk result (Writes (SpellsEach SpellsChunkSaid) (map chunk_said chunks.now) (sum_by chunk_size (map path_of_chunk chunks.now)) writer.old writer.new) }
+    ensures { OnOk result (WritesValue (SpellsEach SpellsChunkSaid) (map chunk_said chunks.now) (sum_by chunk_size (map path_of_chunk chunks.now)) writer.old writer.new) }
 {
     for chunk in chunks {
         write_chunk(writer, chunk)?;

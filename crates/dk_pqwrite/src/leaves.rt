@@ -6,7 +6,7 @@ ghost use Rattle.dk_pqmodel.specs.NodeView.{field_of, fields_of};
 ghost use Rattle.dk_pqmodel.specs.SchemaView.{fields_in};
 ghost use Rattle.dk_pqmodel.specs.Shape.{deepest_in, deepest_of};
 ghost use Rattle.dk_pqwrite.specs.OverItself.{own_plan_in, own_plans};
-ghost use Rattle.dk_pqwrite.specs.SchemaLeaves.{AddsLeaves, entry_columns, leaf_view, names_of, one_column};
+ghost use Rattle.dk_pqwrite.specs.SchemaLeaves.{AddsLeaves, entry_columns, leaf_view, walked_names, one_leaf_column};
 
 use crate::column::{LeafColumn, LeafKind};
 use dk_pqmodel::{Node, NodeKind, Schema};
@@ -44,7 +44,7 @@ fn add_nodes<'a>(
     requires deep { def + deepest_of (fields_of nodes.now) < 256 }
     requires lists { rep ≤ def }
     ensures path { OnOk result (path.new.items ≡ path.old.items) }
-    ensures added { OnOk result (AddsLeaves (columns_of (own_plans (fields_of nodes.now) (names_of path.old.items)) rep def) leaves.old.items leaves.new.items) }
+    ensures added { OnOk result (AddsLeaves (columns_of (own_plans (fields_of nodes.now) (walked_names path.old.items)) rep def) leaves.old.items leaves.new.items) }
 {
     for node in nodes {
         add_named(alloc, leaves, path, &node.name, node, rep, def)?;
@@ -66,7 +66,7 @@ fn add_named<'a>(
     requires deep { def + deepest_in (field_of node.now) < 256 }
     requires lists { rep ≤ def }
     ensures path { OnOk result (path.new.items ≡ path.old.items) }
-    ensures added { OnOk result (AddsLeaves (columns_in (own_plan_in (field_of node.now) (names_of path.old.items ++ name.now ∷ [])) rep def) leaves.old.items leaves.new.items) }
+    ensures added { OnOk result (AddsLeaves (columns_in (own_plan_in (field_of node.now) (walked_names path.old.items ++ name.now ∷ [])) rep def) leaves.old.items leaves.new.items) }
 {
     path.push(name)?;
     add_node(alloc, leaves, path, node, rep, def)?;
@@ -87,7 +87,7 @@ fn add_node<'a>(
     requires deep { def + deepest_in (field_of node.now) < 256 }
     requires lists { rep ≤ def }
     ensures path { OnOk result (path.new.items ≡ path.old.items) }
-    ensures added { OnOk result (AddsLeaves (columns_in (own_plan_in (field_of node.now) (names_of path.old.items)) rep def) leaves.old.items leaves.new.items) }
+    ensures added { OnOk result (AddsLeaves (columns_in (own_plan_in (field_of node.now) (walked_names path.old.items)) rep def) leaves.old.items leaves.new.items) }
 {
     let def = def + u8::from(node.nullable);
     match &node.kind {
@@ -114,7 +114,7 @@ fn add_element<'a>(
     requires deep { def + deepest_in (field_of element.now) < 256 }
     requires lists { rep ≤ def }
     ensures path { OnOk result (path.new.items ≡ path.old.items) }
-    ensures added { OnOk result (AddsLeaves (columns_in (own_plan_in (field_of element.now) (names_of path.old.items ++ codes "list" ∷ codes "element" ∷ [])) rep def)
+    ensures added { OnOk result (AddsLeaves (columns_in (own_plan_in (field_of element.now) (walked_names path.old.items ++ codes "list" ∷ codes "element" ∷ [])) rep def)
         leaves.old.items leaves.new.items) }
 {
     path.push("list")?;
@@ -136,7 +136,7 @@ fn add_entry<'a>(
     requires deep { def + deepest_in (field_of value.now) < 256 }
     requires lists { rep ≤ def }
     ensures path { OnOk result (path.new.items ≡ path.old.items) }
-    ensures added { OnOk result (AddsLeaves (entry_columns (field_of value.now) (names_of path.old.items) rep def) leaves.old.items leaves.new.items) }
+    ensures added { OnOk result (AddsLeaves (entry_columns (field_of value.now) (walked_names path.old.items) rep def) leaves.old.items leaves.new.items) }
 {
     path.push("key_value")?;
     add_key(alloc, leaves, path, rep, def)?;
@@ -154,7 +154,7 @@ fn add_key<'a>(
     def: u8,
 ) -> Result<(), AllocError>
     ensures path { OnOk result (path.new.items ≡ path.old.items) }
-    ensures added { OnOk result (AddsLeaves (one_column (names_of path.old.items ++ codes "key" ∷ []) LeafKind.Chars rep def) leaves.old.items leaves.new.items) }
+    ensures added { OnOk result (AddsLeaves (one_leaf_column (walked_names path.old.items ++ codes "key" ∷ []) LeafKind.Chars rep def) leaves.old.items leaves.new.items) }
 {
     path.push("key")?;
     add_leaf(alloc, leaves, path, LeafKind::Chars, rep, def)?;
@@ -171,7 +171,7 @@ fn add_leaf(
     rep: u8,
     def: u8,
 ) -> Result<(), AllocError>
-    ensures { OnOk result (AddsLeaves (one_column (names_of path.now) kind rep def) leaves.old.items leaves.new.items) }
+    ensures { OnOk result (AddsLeaves (one_leaf_column (walked_names path.now) kind rep def) leaves.old.items leaves.new.items) }
 {
     leaves.push(SchemaLeaf {
         path: copy_names(alloc, path)?,
@@ -182,7 +182,7 @@ fn add_leaf(
 
 /// The same names, owned.
 fn copy_names(alloc: Global, names: &[&str]) -> Result<Vec<String>, AllocError>
-    ensures { IfOk result (λ v. map string_bytes v.items ≡ names_of names.now) }
+    ensures { IfOk result (λ v. map string_bytes v.items ≡ walked_names names.now) }
 {
     let mut owned = Vec::with_capacity(alloc, names.len())?;
     for name in names {

@@ -21,7 +21,7 @@ use Rattle.dk_lawful.specs.History.{Way, By_file}
 use Rattle.dk_txn.specs.Attempt.{last_version, commit_text, Writing, written_after, if_allowed, if_within}
 use Rattle.dk_txn.specs.Commits.{Commits, TakenBy, was_taken}
 use Rattle.dk_txn.specs.FitLaws.{WrittenByFile}
-use Rattle.dk_txn.specs.Transactions.{Reached, At_own, After, may_come, writing_at, Outcome, AlreadyCommitted, ToWrite, to_write, outcome_after, reached_at, next_after, outcome, by_file_writing, prepared_as, IsSmall, Concludes}
+use Rattle.dk_txn.specs.Transactions.{Reached, At_own, After, may_come, writing_at, Outcome, AlreadyCommitted, ToWrite, to_write, outcome_after, reached_at, next_from, outcome, by_file_writing, prepared_as, IsSmall, Concludes}
 use Rattle.dk_txn.proofs.ByFile.{allowed_by_file, may_allowed, written_by}
 use Rattle.dk_txn.proofs.NotAbove.{AtMost, free_above}
 use Rattle.dk_txn.proofs.Next.{within_is}
@@ -54,24 +54,24 @@ after_next t limits now next (Ok (After state conflict)) writing is =
           (λ u may. allowed_by_file from t.actions.items t.id u (may_allowed t from conflict u may)) meant;
     }
 
-outcome_next : (events : List Told) (limits : Limits) (t : Transaction) (now : ℤ) (writing : Writing) → outcome events limits t now ≡ Ok (ToWrite writing) → ComesAs writing (next_after t.from.version (latest events))
+outcome_next : (events : List Told) (limits : Limits) (t : Transaction) (now : ℤ) (writing : Writing) → outcome events limits t now ≡ Ok (ToWrite writing) → ComesAs writing (next_from t.from.version (latest events))
 outcome_next events limits t now writing is = by (nat_lt last_version next) is
   where
     next : ℕ
-    next = next_after t.from.version (latest events)
+    next = next_from t.from.version (latest events)
 
     by : (above : Bool) → (if above then Err (refusals.Limit which.Version last_version) else outcome_after t limits now next (reached_at events limits t next)) ≡ Ok (ToWrite writing) → ComesAs writing next
     by true meant = absurd (let no : ◌≡◌ {A = Result Outcome Refusal} (Err (refusals.Limit which.Version last_version)) (Ok (ToWrite writing)) = meant in cc)
     by false meant = after_next t limits now next (reached_at events limits t next) writing meant
 
 -- it is the one that comes next
-pub writes_next : (events : List Told) (limits : Limits) (t : Transaction) (now : ℤ) (writing : Writing) → outcome events limits t now ≡ Ok (ToWrite writing) → writing.version ≡ next_after t.from.version (latest events)
+pub writes_next : (events : List Told) (limits : Limits) (t : Transaction) (now : ℤ) (writing : Writing) → outcome events limits t now ≡ Ok (ToWrite writing) → writing.version ≡ next_from t.from.version (latest events)
 writes_next events limits t now writing is = (outcome_next events limits t now writing is).version
 
 pub written_by_file : WrittenByFile
 written_by_file events limits t now writing is = (outcome_next events limits t now writing is).by_file
 
-not_above : (from version : ℕ) (last : Option ℕ) → version ≡ next_after from last → AtMost version last → ⊥
+not_above : (from version : ℕ) (last : Option ℕ) → version ≡ next_from from last → AtMost version last → ⊥
 not_above from version None is most = most
 not_above from version (Some last) is most = omega (arith, is, most)
 

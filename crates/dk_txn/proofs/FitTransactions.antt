@@ -36,8 +36,8 @@ use Rattle.dk_txn.specs.declared.start.Start.{Start}
 use Rattle.dk_txn.specs.declared.transaction.Transaction.{Transaction}
 use Rattle.dk_txn.specs.Attempt.{last_version, unbuilt, unsupported, own_commit, commit_text, allowed, Writing, written_after, if_allowed, if_within}
 use Rattle.dk_txn.specs.Winners.{Since, Own, Others, since, kind_after, conflict_after}
-use Rattle.dk_txn.specs.Transactions.{come_to, if_headed, headed, oldest_of, unless_conflict, and_also, may_come, writing_at, Outcome, AlreadyCommitted, ToWrite, to_write, outcome_after, reached_at, outcome_at, next_after, outcome, Comes}
-use Rattle.dk_txn.specs.TransactionHistory.{IsFit, StandsTo, snapshot_of, own_of}
+use Rattle.dk_txn.specs.Transactions.{come_to, if_headed, headed, oldest_of, unless_conflict, and_also, may_come, writing_at, Outcome, AlreadyCommitted, ToWrite, to_write, outcome_after, reached_at, outcome_at, next_from, outcome, Comes}
+use Rattle.dk_txn.specs.TransactionHistory.{FitsLog, StandsTo, snapshot_of, own_of}
 use Rattle.dk_txn.specs.WinnerLaws.{AreLater}
 use Rattle.dk_txn.specs.FitLaws.{IsNextOf, StandingIsNext, FitIsNext, FitComes}
 use Rattle.dk_txn.proofs.ByFile.{allowed_by_file, file_way, may_allowed, written_by}
@@ -64,7 +64,7 @@ all_steps (commit ∷ commits) (suc first) state = all_steps commits first (step
 
 -- ---- one that is fit stands to the log
 
-module _ (events : List Told) (horizon : ℤ) (t : Transaction) (fit : IsFit events horizon t) where
+module _ (events : List Told) (horizon : ℤ) (t : Transaction) (fit : FitsLog events horizon t) where
 
   known_with : (first : Bool) → (t.from.version == 0) ≡ first → t.from.version ≤ next_version events
   known_with true is = elim (eqb_tells t.from.version 0) [
@@ -135,11 +135,11 @@ module _ (events : List Told) (horizon : ℤ) (lawful : Lawful events horizon) (
 
   -- ---- the version that comes next
 
-  next_with : (last : Option ℕ) (next : ℕ) → next_version events ≡ next → last ≡ last_of next → next_after t.from.version last ≡ next_version events
-  next_with last zero is top = ap (next_after t.from.version) top ∙ (let low : t.from.version ≤ next_version events = within in omega (arith, is, low))
-  next_with last (suc before) is top = ap (next_after t.from.version) top ∙ (let low : t.from.version ≤ next_version events = within in omega (arith, is, low))
+  next_with : (last : Option ℕ) (next : ℕ) → next_version events ≡ next → last ≡ last_of next → next_from t.from.version last ≡ next_version events
+  next_with last zero is top = ap (next_from t.from.version) top ∙ (let low : t.from.version ≤ next_version events = within in omega (arith, is, low))
+  next_with last (suc before) is top = ap (next_from t.from.version) top ∙ (let low : t.from.version ≤ next_version events = within in omega (arith, is, low))
 
-  next_is : next_after t.from.version (latest events) ≡ next_version events
+  next_is : next_from t.from.version (latest events) ≡ next_version events
   next_is = next_with (latest events) (next_version events) refl (latest_is_last events horizon lawful)
 
   -- ---- what is to be written

@@ -27,14 +27,14 @@ use Rattle.dk_txn.specs.declared.transaction.Transaction.{Transaction}
 use Rattle.dk_txn.specs.Attempt.{Writing, way_of, written_path}
 use Rattle.dk_txn.specs.Commits.{HistoryAfterRefusal}
 use Rattle.dk_txn.specs.Transactions.{Outcome, AlreadyCommitted, ToWrite, outcome, Concludes, Comes, ConcludesHistory, Remembers}
-use Rattle.dk_txn.specs.TransactionHistory.{actor_of, own_staged, recorded_path, IsFit, own_of, CommitsOwn, SaysOwn}
+use Rattle.dk_txn.specs.TransactionHistory.{actor_of, own_staged, recorded_path, FitsLog, own_of, CommitsOwn, SaysOwn}
 use Rattle.dk_txn.proofs.ByFile.{file_way}
 use Rattle.dk_txn.proofs.FitTransactions.{plain_of, fit_stands, fit_is_next, plain_comes, standing_had, stands_after}
 use Rattle.dk_txn.proofs.Lawfully.{nothing_added, refused_same}
 
 -- ---- by the history alone
 
-module _ (events later : List Told) (horizon : ℤ) (t : Transaction) (fit : IsFit events horizon t) where
+module _ (events later : List Told) (horizon : ℤ) (t : Transaction) (fit : FitsLog events horizon t) where
   -- the answered version has the id
   abbrev HasAnswered : Option ℕ → Type 0
   HasAnswered answered = (version : ℕ) → answered ≡ Some version → HasId (history later) version (id_text t.id)
@@ -59,7 +59,7 @@ module _ (events later : List Told) (horizon : ℤ) (t : Transaction) (fit : IsF
   answered_fits answered own fits = record { below = fits.below; moment = fits.moment; valid = fits.valid; means = fits.means }
 
   with_answer : (answered : Option ℕ) → (way_of (table later) ≡ By_file → recorded_path t ≡ None) → actors.TransactionFits later horizon (record (actor_of t) { answered = answered })
-      → IsFit later horizon (record t { committed = answered })
+      → FitsLog later horizon (record t { committed = answered })
   with_answer answered unstaged fits = record { fits = fits; empty = fit.empty; unstaged = unstaged }
 
   -- the history is as it was
@@ -117,7 +117,7 @@ module _ (events later : List Told) (horizon : ℤ) (t : Transaction) (fit : IsF
 
 module _ (events later : List Told) (limits : Limits) (t after : Transaction) (now : ℤ) (result : Result Committed Refusal) (fresh : t.committed ≡ None) (remembers : Remembers t result after)
     (keeps : Comes (outcome events limits t now) (plain_of t) events → StaysLawful events later)
-    (horizon : ℤ) (lawful : Lawful events horizon) (fit : IsFit events horizon t) where
+    (horizon : ℤ) (lawful : Lawful events horizon) (fit : FitsLog events horizon t) where
   lawful_later : Lawful later horizon
   lawful_later = (keeps (plain_comes events horizon limits t now lawful (fit_stands events horizon t fit))).lawful horizon lawful
 
@@ -128,17 +128,17 @@ module _ (events later : List Told) (limits : Limits) (t after : Transaction) (n
   as_before remembered refusal is = subst (λ (r : Result Committed Refusal). Remembers t r after) is remembered
 
   -- with a staged commit that fits
-  fit_same : IsSameHistory events later → StagedFits events later horizon t fit → (way_of (table later) ≡ By_file → recorded_path t ≡ None) → after ≡ t → IsFit later horizon after
+  fit_same : IsSameHistory events later → StagedFits events later horizon t fit → (way_of (table later) ≡ By_file → recorded_path t ≡ None) → after ≡ t → FitsLog later horizon after
   fit_same same staged unstaged is =
-      subst (IsFit later horizon) (sym is) (with_answer events later horizon t fit t.committed unstaged (fits_same events later horizon t fit same staged t.committed (none_answered (history later))))
+      subst (FitsLog later horizon) (sym is) (with_answer events later horizon t fit t.committed unstaged (fits_same events later horizon t fit same staged t.committed (none_answered (history later))))
 
-  fit_more : HasOneMore (plain_of t) events later → StandsNowhere events (id_text t.id) → recorded_path t ≡ None → after ≡ t → IsFit later horizon after
+  fit_more : HasOneMore (plain_of t) events later → StandsNowhere events (id_text t.id) → recorded_path t ≡ None → after ≡ t → FitsLog later horizon after
   fit_more more nowhere none is =
-      subst (IsFit later horizon) (sym is)
+      subst (FitsLog later horizon) (sym is)
       (with_answer events later horizon t fit t.committed (λ file. none)
       (fits_more events later horizon t fit more nowhere (unstaged_fits events later horizon t fit none) t.committed (none_answered (history later))))
 
-  fit_refused : (refusal : Refusal) → HistoryAfterRefusal refusal (plain_of t) events later → StandsNowhere events (id_text t.id) → recorded_path t ≡ None → after ≡ t → IsFit later horizon after
+  fit_refused : (refusal : Refusal) → HistoryAfterRefusal refusal (plain_of t) events later → StandsNowhere events (id_text t.id) → recorded_path t ≡ None → after ≡ t → FitsLog later horizon after
   fit_refused refusals.Store (inl same) nowhere none is = fit_same same (unstaged_fits events later horizon t fit none) (λ file. none) is
   fit_refused refusals.Store (inr more) nowhere none is = fit_more more nowhere none is
   fit_refused refusal same nowhere none is = fit_same same (unstaged_fits events later horizon t fit none) (λ file. none) is
@@ -155,15 +155,15 @@ module _ (events later : List Told) (limits : Limits) (t after : Transaction) (n
   same_unstaged : later ≡ events → way_of (table later) ≡ By_file → recorded_path t ≡ None
   same_unstaged same file = fit.unstaged (ap (λ (es : List Told). way_of (table es)) (sym same) ∙ file)
 
-  fit_unmoved : later ≡ events → after ≡ t → IsFit later horizon after
+  fit_unmoved : later ≡ events → after ≡ t → FitsLog later horizon after
   fit_unmoved same is = fit_same (same_history same) (same_staged events later horizon t fit same) (same_unstaged same) is
 
   answered_as : (version : ℕ) → result ≡ Ok (record { version = version }) → after ≡ record t { committed = Some version }
   answered_as version is = subst (λ (r : Result Committed Refusal). Remembers t r after) is remembers
 
   fit_answered : (version : ℕ) → after ≡ record t { committed = Some version } → (way_of (table later) ≡ By_file → recorded_path t ≡ None)
-      → actors.TransactionFits later horizon (record (actor_of t) { answered = Some version }) → IsFit later horizon after
-  fit_answered version is unstaged fits = subst (IsFit later horizon) (sym is) (with_answer events later horizon t fit (Some version) unstaged fits)
+      → actors.TransactionFits later horizon (record (actor_of t) { answered = Some version }) → FitsLog later horizon after
+  fit_answered version is unstaged fits = subst (FitsLog later horizon) (sym is) (with_answer events later horizon t fit (Some version) unstaged fits)
 
   answer_has : (version : ℕ) → HasId (history later) version (id_text t.id) → (other : ℕ) → ◌≡◌ {A = Option ℕ} (Some version) (Some other) → HasId (history later) other (id_text t.id)
   answer_has version has other is = let same : version ≡ other = cc in subst (λ (v : ℕ). HasId (history later) v (id_text t.id)) same has
@@ -246,7 +246,7 @@ tells_again (Some events) (Some later) t after now version result is answers rem
     (record {
       lawful = subst (λ (es : List Told). Lawful es horizon) (sym at) lawful;
       history = inl (record { same = at; after = stands_after events horizon t fit version has; has = has });
-      fit = subst (IsFit later horizon) (sym as_it_was)
+      fit = subst (FitsLog later horizon) (sym as_it_was)
           (with_answer events later horizon t fit (Some version) (λ file. fit.unstaged (ap (λ (es : List Told). way_of (table es)) (sym at) ∙ file))
           (fits_same events later horizon t fit (ap history at) (same_staged events later horizon t fit at) (Some version)
           (λ other is_other. let same_version : version ≡ other = cc in

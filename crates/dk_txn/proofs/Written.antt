@@ -25,7 +25,7 @@ use Rattle.dk_txn.specs.declared.attempt.Writing as written
 use Rattle.dk_txn.specs.declared.start.Start.{Start}
 use Rattle.dk_txn.specs.declared.commit.Committed.{Committed}
 use Rattle.dk_txn.specs.Attempt.{unbuilt, verdict, own_commit, allowed}
-use Rattle.dk_txn.specs.Commits.{Commits, Writes, HistoryAfterCommit, SaysHistory, ComesNext}
+use Rattle.dk_txn.specs.Commits.{Commits, WritesMeant, HistoryAfterCommit, SaysHistory, ComesNext}
 use Rattle.dk_txn.specs.Transactions.{by_file_writing}
 use Rattle.dk_txn.proofs.Readable.{valid_reads}
 
@@ -59,7 +59,7 @@ exists_never fact (Some events) later path bytes version puts.Exists at exists d
 
 module _ (path bytes : List ℕ) (writing : written.Writing) (at : path ≡ commit_path writing.version) (same : bytes ≡ writing.text.items) where
   adds_file : (events : List Told) (later : Option (List Told)) → IsNone (object events (commit_path writing.version)) → AddsMade path bytes (Some events) later
-      → Writes (Ok (by_file_writing writing)) events writing.version later
+      → WritesMeant (Ok (by_file_writing writing)) events writing.version later
   adds_file events later free made = (
     by_file_writing writing,
     refl,

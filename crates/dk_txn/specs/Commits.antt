@@ -38,12 +38,12 @@ AddsBy By_file version text events later = AddsFile version text events later
 AddsBy By_catalogue version text events later = AddsRatified version text events later
 
 -- the commit was added, by the way by which the table goes on
-abbrev pub AddsCommit : Writing → List Told → Option (List Told) → Type 0
-AddsCommit writing events later = AddsBy writing.way writing.version writing.text events later
+abbrev pub AddsOwnCommit : Writing → List Told → Option (List Told) → Type 0
+AddsOwnCommit writing events later = AddsBy writing.way writing.version writing.text events later
 
 -- what is meant was written
-abbrev pub Writes : Result Writing Refusal → List Told → ℕ → Option (List Told) → Type 0
-Writes meant events version later = (writing : Writing) × (meant ≡ Ok writing) × (writing.version ≡ version) × AddsCommit writing events later
+abbrev pub WritesMeant : Result Writing Refusal → List Told → ℕ → Option (List Told) → Type 0
+WritesMeant meant events version later = (writing : Writing) × (meant ≡ Ok writing) × (writing.version ≡ version) × AddsOwnCommit writing events later
 
 -- That the path was taken, over told events, where nobody comes in between: never that of a commit by file, as nothing stands at the path of the
 -- version that comes next; a staged path where an object stands there already, and nothing is added.
@@ -57,14 +57,14 @@ FindsTaken meant path events later = (writing : Writing) × (meant ≡ Ok writin
 
 -- A failed store may have taken what is meant. Any other refusal is the meaning's and adds nothing, but that the path was taken.
 abbrev pub CommitRefuses : Refusal → Result Writing Refusal → List Told → Option (List Told) → Type 0
-CommitRefuses refusals.Store meant events later = (later ≡ Some events) ⊎ ((version : ℕ) × Writes meant events version later)
+CommitRefuses refusals.Store meant events later = (later ≡ Some events) ⊎ ((version : ℕ) × WritesMeant meant events version later)
 CommitRefuses refusals.OutOfMemory meant events later = later ≡ Some events
 CommitRefuses (refusals.Taken path) meant events later = FindsTaken meant path events later
 CommitRefuses refusal meant events later = (meant ≡ Err refusal) × (later ≡ Some events)
 
 -- what a commit did to the events that were told, by what is meant over them
 abbrev pub Commits : Result Writing Refusal → List Told → Result Committed Refusal → Option (List Told) → Type 0
-Commits meant events (Ok committed) later = Writes meant events committed.version later
+Commits meant events (Ok committed) later = WritesMeant meant events committed.version later
 Commits meant events (Err refusal) later = CommitRefuses refusal meant events later
 
 -- ---- clashes

@@ -13,7 +13,7 @@ use Rattle.dk_lawful.specs.Transacted.{transacted}
 use Rattle.dk_txn.specs.declared.transaction.Transaction.{Transaction}
 use Rattle.dk_txn.specs.Attempt.{Writing, way_of, attempt, own_commit}
 use Rattle.dk_txn.specs.Transactions.{ToWrite, outcome, Comes}
-use Rattle.dk_txn.specs.TransactionHistory.{IsFit, StandsTo, later_commits, own_of}
+use Rattle.dk_txn.specs.TransactionHistory.{FitsLog, StandsTo, later_commits, own_of}
 use Rattle.dk_txn.specs.Winners.{conflict_after}
 
 -- What is to be written is the next version, by the way by which the table goes on, and keeps the rules after its commits; none of the commits since the
@@ -35,12 +35,12 @@ StandingIsNext = (events : List Told) (horizon : ℤ) (limits : Limits) (t : Tra
 
 -- that of one that is fit stands nowhere yet
 abbrev pub FitIsNext : Type 0
-FitIsNext = (events : List Told) (horizon : ℤ) (limits : Limits) (t : Transaction) (now : ℤ) (writing : Writing) → Lawful events horizon → IsFit events horizon t
+FitIsNext = (events : List Told) (horizon : ℤ) (limits : Limits) (t : Transaction) (now : ℤ) (writing : Writing) → Lawful events horizon → FitsLog events horizon t
     → outcome events limits t now ≡ Ok (ToWrite writing) → IsNextOf events t now writing × StandsNowhere events (id_text t.id)
 
 -- and so it may come next
 abbrev pub FitComes : Type 0
-FitComes = (events : List Told) (horizon : ℤ) (limits : Limits) (t : Transaction) (now : ℤ) → Lawful events horizon → IsFit events horizon t → Comes (outcome events limits t now) (own_of t events now) events
+FitComes = (events : List Told) (horizon : ℤ) (limits : Limits) (t : Transaction) (now : ℤ) → Lawful events horizon → FitsLog events horizon t → Comes (outcome events limits t now) (own_of t events now) events
 
 -- what is to be written over a lawful log by one that begins at its latest version is what the law has it commit at that moment
 abbrev pub AttemptsAreTransacted : Type 0

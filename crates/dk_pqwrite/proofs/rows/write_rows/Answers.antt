@@ -1,6 +1,6 @@
 use Rattle.std.proofs.Common.{rules, ◌≡◌, [], length, map, ap, ◌∙◌, arith}
 use Rattle.dk_pqmodel.proofs.Fitting.{fitting_rows_match}
-use Rattle.dk_levels.specs.Borrowed.{columns_of}
+use Rattle.dk_levels.specs.Borrowed.{borrowed_columns}
 use Rattle.dk_pqmodel.specs.FooterBytes.{magic}
 use Rattle.dk_pqmodel.specs.RowView.{rows_of}
 use Rattle.dk_pqmodel.specs.SchemaView.{fields_in}
@@ -22,7 +22,7 @@ write_columns-requires-clause-writable c =
     let fs = fields_in c.args.schema.now in
     let rows = rows_of c.args.rows.now in
     let read : c.deref.result.now ≡ c.in_ok-columns.columns.items = search rules in
-    let cut : columns_of c.deref.result.now ≡ triples fs rows = ap columns_of read ∙ c.in_ok-columns.ensures in
+    let cut : borrowed_columns c.deref.result.now ≡ triples fs rows = ap borrowed_columns read ∙ c.in_ok-columns.ensures in
     rw (c.in_ok-leaves.ensures, cut) (shredded_writable fs rows c.args.schema.now.is_schema c.requires.fit c.requires.light)
 
 pub returns-clause-means : goal.returns-clause-means
@@ -30,10 +30,10 @@ returns-clause-means c =
     let fs = fields_in c.args.schema.now in
     let rows = rows_of c.args.rows.now in
     let read : c.deref.result.now ≡ c.in_ok-columns.columns.items = search rules in
-    let cut : columns_of c.deref.result.now ≡ triples fs rows = ap columns_of read ∙ c.in_ok-columns.ensures in
+    let cut : borrowed_columns c.deref.result.now ≡ triples fs rows = ap borrowed_columns read ∙ c.in_ok-columns.ensures in
     let started : c.extend_from_slice.new.self.items ≡ magic = search rules in
     let same : c.deref-2.result.now ≡ c.in_ok-chunks.chunks.items = search rules in
-    let written = of_schema (file_columns (own_plans fs []) 0 0) (triples fs rows) (map leaf_view c.in_ok-leaves.leaves.items) (columns_of c.deref.result.now) c.in_ok-chunks.chunks.items magic
+    let written = of_schema (file_columns (own_plans fs []) 0 0) (triples fs rows) (map leaf_view c.in_ok-leaves.leaves.items) (borrowed_columns c.deref.result.now) c.in_ok-chunks.chunks.items magic
     c.extend_from_slice.new.self.items c.write_columns.new.out.items c.in_ok-leaves.ensures cut started c.in_ok-chunks.ensures in
     file_means fs rows (length c.args.rows.now) _ c.in_ok-chunks.chunks.items c.deref-2.result.now c.write_columns.new.out.items c.end_file.new.bytes.items c.args.schema.now.is_schema
     (fitting_rows_match fs rows c.requires.fit) (rows_counted c.args.rows.now) written same c.in_ok-end_file.ensures.ended
@@ -43,10 +43,10 @@ returns-clause-says c =
     let fs = fields_in c.args.schema.now in
     let rows = rows_of c.args.rows.now in
     let read : c.deref.result.now ≡ c.in_ok-columns.columns.items = search rules in
-    let cut : columns_of c.deref.result.now ≡ triples fs rows = ap columns_of read ∙ c.in_ok-columns.ensures in
+    let cut : borrowed_columns c.deref.result.now ≡ triples fs rows = ap borrowed_columns read ∙ c.in_ok-columns.ensures in
     let started : c.extend_from_slice.new.self.items ≡ magic = search rules in
     let same : c.deref-2.result.now ≡ c.in_ok-chunks.chunks.items = search rules in
-    let written = of_schema (file_columns (own_plans fs []) 0 0) (triples fs rows) (map leaf_view c.in_ok-leaves.leaves.items) (columns_of c.deref.result.now) c.in_ok-chunks.chunks.items magic
+    let written = of_schema (file_columns (own_plans fs []) 0 0) (triples fs rows) (map leaf_view c.in_ok-leaves.leaves.items) (borrowed_columns c.deref.result.now) c.in_ok-chunks.chunks.items magic
     c.extend_from_slice.new.self.items c.write_columns.new.out.items c.in_ok-leaves.ensures cut started c.in_ok-chunks.ensures in
     says_bytes fs (triples fs rows) (length c.args.rows.now) _ c.in_ok-chunks.chunks.items c.deref-2.result.now c.write_columns.new.out.items c.end_file.new.bytes.items written same
     (omega (arith, c.len.ensures, c.write_columns.new.out.ok.0, ap length written.added)) c.in_ok-end_file.ensures.ended
@@ -56,9 +56,9 @@ returns-clause-small c =
     let fs = fields_in c.args.schema.now in
     let rows = rows_of c.args.rows.now in
     let read : c.deref.result.now ≡ c.in_ok-columns.columns.items = search rules in
-    let cut : columns_of c.deref.result.now ≡ triples fs rows = ap columns_of read ∙ c.in_ok-columns.ensures in
+    let cut : borrowed_columns c.deref.result.now ≡ triples fs rows = ap borrowed_columns read ∙ c.in_ok-columns.ensures in
     let started : c.extend_from_slice.new.self.items ≡ magic = search rules in
     let same : c.deref-2.result.now ≡ c.in_ok-chunks.chunks.items = search rules in
-    let written = of_schema (file_columns (own_plans fs []) 0 0) (triples fs rows) (map leaf_view c.in_ok-leaves.leaves.items) (columns_of c.deref.result.now) c.in_ok-chunks.chunks.items magic
+    let written = of_schema (file_columns (own_plans fs []) 0 0) (triples fs rows) (map leaf_view c.in_ok-leaves.leaves.items) (borrowed_columns c.deref.result.now) c.in_ok-chunks.chunks.items magic
     c.extend_from_slice.new.self.items c.write_columns.new.out.items c.in_ok-leaves.ensures cut started c.in_ok-chunks.ensures in
     few_bytes fs rows c.in_ok-chunks.chunks.items c.deref-2.result.now c.write_columns.new.out.items c.end_file.new.bytes.items c.args.schema.now.is_schema written same c.in_ok-end_file.ensures.size
