@@ -65,7 +65,6 @@ all_steps (commit ∷ commits) (suc first) state = all_steps commits first (step
 -- ---- one that is fit stands to the log
 
 module _ (events : List Told) (horizon : ℤ) (t : Transaction) (fit : FitsLog events horizon t) where
-
   known_with : (first : Bool) → (t.from.version == 0) ≡ first → t.from.version ≤ next_version events
   known_with true is = elim (eqb_tells t.from.version 0) [
     | inl yes_it ↦ let none : t.from.version ≡ 0 = yes_it.1 in omega (arith, none)

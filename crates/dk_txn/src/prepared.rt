@@ -38,7 +38,9 @@ pub(crate) enum Prepared {
 #[derive(Drop)]
 pub(crate) enum Reached {
     /// The transaction's own commit stands already, as this version.
-    AtOwn { version: u64 },
+    AtOwn {
+        version: u64,
+    },
     /// All are commits of others: the state after them, and the first that is in the way, if one is, by its version.
     After {
         state: TableState,
@@ -213,7 +215,14 @@ fn prepare_after(
     ensures reads_back { IfOk result (ReadsBack transaction.now.id transaction.now.actions.items) }
     ensures small { IfOk result IsSmall }
 {
-    match reach(alloc, store, json, options.limits.object, transaction, winners) {
+    match reach(
+        alloc,
+        store,
+        json,
+        options.limits.object,
+        transaction,
+        winners,
+    ) {
         Err(refusal) => Err(refusal),
         Ok(Reached::AtOwn { version }) => Ok(Prepared::AlreadyCommitted { version }),
         Ok(Reached::After { state, conflict }) => {
