@@ -132,7 +132,7 @@ module _ (limits : Limits) (now passed : ℤ) (t : Transaction) (own : List Acti
       (subst (λ (commit : List Action). Comes (to_write (attempt events limits own now id)) commit events) (sym (ap₂ own_commit id_is own_is)) (comes events begun small (attempt events limits own now id) refl))
 
   refused : (cause : Refusal) (commit : List Action) (events later : List Told) (result : Result Committed Refusal) → Commits (Err cause) events result (Some later) → HistoryAfterCommit commit result events later
-  refused cause commit events later (Ok committed) (writing, is, adds) = absurd (let no : ◌≡◌ {A = Result Writing Refusal} (Err cause) (Ok writing) = is in cc)
+  refused cause commit events later (Ok committed) (writing, is, at, adds) = absurd (let no : ◌≡◌ {A = Result Writing Refusal} (Err cause) (Ok writing) = is in cc)
   refused cause commit events later (Err refusal) did = nothing_added refusal commit events later (ap history (refused_same events later refusal cause did))
 
   says : (events later : List Told) → start events limits now ≡ Ok t.from → t.from.version < 2 ^ 63 → (meant : Result Writing Refusal) → attempt events limits own now id ≡ meant → (result : Result Committed Refusal)

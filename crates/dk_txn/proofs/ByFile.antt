@@ -1,9 +1,8 @@
 -- What is to be written comes by file: a table that a catalogue manages stays so, and none is written so far.
-use Rattle.std.proofs.Common.{◌≡◌, ℕ, ℤ, Bool, true, false, true≢false, List, [], ◌∷◌, length, refl, ap, sym, ◌∙◌, filter_map, if◌then◌else◌}
+use Rattle.std.proofs.Common.{◌≡◌, ℕ, Bool, true, false, true≢false, List, [], ◌∷◌, length, refl, ap, sym, ◌∙◌, filter_map, if◌then◌else◌}
 use Rattle.std.specs.Prelude.{Option, Some, None, Result, Ok, Err}
 use Rattle.std.specs.List.{list_all}
 use Rattle.std.proofs.lemmas.Bool.{and_parts}
-use Rattle.dk_store.specs.Told.{Told}
 use Rattle.dk_model.specs.declared.action.Action.{Action}
 use Rattle.dk_model.specs.declared.action.Action.TheVariants as action
 use Rattle.dk_model.specs.declared.action.Protocol.{Protocol}
@@ -15,9 +14,8 @@ use Rattle.dk_features.specs.Names.{catalog_managed}
 use Rattle.dk_features.specs.InForce.{has_feature}
 use Rattle.dk_features.specs.Forms.{has_form, keeps_features}
 use Rattle.dk_features.proofs.StayInForce.{stays}
-use Rattle.dk_engine.specs.declared.limits.Limits.{Limits}
 use Rattle.dk_engine.specs.declared.refusal.Refusal.{Refusal}
-use Rattle.dk_lawful.specs.History.{Way, By_file, By_catalogue}
+use Rattle.dk_lawful.specs.History.{By_file, By_catalogue}
 use Rattle.dk_lawful.specs.Managed.{is_managed}
 use Rattle.dk_lawful.specs.Rules.{is_not_lower, may_follow, is_protocol_kept, keeps_heads, keeps_kinds, keeps_paths_apart, keeps_names_apart, keeps_protocol}
 use Rattle.dk_lawful.specs.SoFar.{first_broken_so_far}

@@ -29,7 +29,7 @@ same_told events later is = cc
 -- where what is meant is a refusal
 pub refused_same : (events later : List Told) (refusal cause : Refusal) → CommitRefuses refusal (Err cause) events (Some later) → later ≡ events
 refused_same events later refusals.Store cause (inl same) = same_told events later same
-refused_same events later refusals.Store cause (inr (version, (writing, is, adds))) = absurd (let no : ◌≡◌ {A = Result Writing Refusal} (Err cause) (Ok writing) = is in cc)
+refused_same events later refusals.Store cause (inr (version, (writing, is, at, adds))) = absurd (let no : ◌≡◌ {A = Result Writing Refusal} (Err cause) (Ok writing) = is in cc)
 refused_same events later refusals.OutOfMemory cause did = same_told events later did
 refused_same events later (refusals.Taken path) cause (writing, is, taken) = absurd (let no : ◌≡◌ {A = Result Writing Refusal} (Err cause) (Ok writing) = is in cc)
 refused_same events later refusal cause did = same_told events later did.1

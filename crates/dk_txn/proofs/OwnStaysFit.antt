@@ -205,7 +205,7 @@ module _ (events later : List Told) (limits : Limits) (t after : Transaction) (n
         history = subst (λ (own : List Action). HistoryAfterRefusal refusal own events later) (sym next.written) history_after;
         fit = fit_refused refusal history_after nowhere none (as_before remembers refusal answers);
       }
-  says_by (Err cause) is (Ok committed) answers (writing, meant, adds) said = absurd (let no : ◌≡◌ {A = Result Writing Refusal} (Err cause) (Ok writing) = meant in cc)
+  says_by (Err cause) is (Ok committed) answers (writing, meant, at, adds) said = absurd (let no : ◌≡◌ {A = Result Writing Refusal} (Err cause) (Ok writing) = meant in cc)
   says_by (Err cause) is (Err refusal) answers did said =
       let same : later ≡ events = refused_same events later refusal cause did in
       record { lawful = lawful_later; history = nothing_added refusal (own_of t events now) events later (same_history same); fit = fit_unmoved same (as_before remembers refusal answers) }

@@ -36,7 +36,7 @@ use Rattle.dk_txn.proofs.Starts.{chosen, not_chosen}
 use Rattle.dk_txn.proofs.Written.{allowed_reads}
 use Rattle.dk_txn.specs.Attempt.{last_version, own_commit, commit_text, allowed, Writing, written_after, if_allowed, if_within}
 use Rattle.dk_txn.specs.Winners.{Since, Own, Others, gone, or_gone, since_steps, since_sources, sources, commit_at, AreWinners}
-use Rattle.dk_txn.specs.Transactions.{Reached, After, come_to, headed, oldest_of, unless_conflict, and_also, rules_keep, may_come, reached_view, reached_as, writing_at, Outcome, ToWrite, to_write, outcome_after, reached_by_steps, reached_at, outcome_at, next_from, outcome}
+use Rattle.dk_txn.specs.Transactions.{Reached, After, come_to, unless_conflict, and_also, rules_keep, may_come, reached_view, reached_as, writing_at, Outcome, ToWrite, to_write, outcome_after, reached_by_steps, reached_at, outcome_at, next_from, outcome}
 
 -- ---- a winner that is missing is gone
 

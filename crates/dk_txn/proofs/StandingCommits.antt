@@ -1,5 +1,5 @@
 -- What a commit did to a lawful log, of a transaction that stands to it, whatever its id.
-use Rattle.std.proofs.Common.{◌≡◌, ℕ, ℤ, true, false, List, refl, ap, sym, subst}
+use Rattle.std.proofs.Common.{◌≡◌, ℤ, true, false, List, refl, ap, sym, subst}
 use Rattle.std.specs.Prelude.{Option, Some, None, Result, Ok, Err, IfSome, is_some}
 use Rattle.dk_store.specs.Told.{Told}
 use Rattle.dk_model.specs.declared.action.Action.{Action}
@@ -27,7 +27,7 @@ same_told : (events later : List Told) → ◌≡◌ {A = Option (List Told)} (S
 same_told events later is = cc
 
 unmoved : (events later : List Told) (cause : Refusal) (answer : Result Committed Refusal) → Commits (Err cause) events answer (Some later) → IsSameHistory events later
-unmoved events later cause (Ok committed) (writing, is, adds) = absurd (let no : ◌≡◌ {A = Result Writing Refusal} (Err cause) (Ok writing) = is in cc)
+unmoved events later cause (Ok committed) (writing, is, at, adds) = absurd (let no : ◌≡◌ {A = Result Writing Refusal} (Err cause) (Ok writing) = is in cc)
 unmoved events later cause (Err refusal) did = ap history (refused_same events later refusal cause did)
 
 says_from : (events later : List Told) (limits : Limits) (t : Transaction) (now : ℤ) (result : Result Committed Refusal) → Concludes (outcome events limits t now) events result (Some later)

@@ -1,5 +1,5 @@
 //! The winners: the commits that came after a transaction's snapshot.
-ghost use Rattle.std.specs.Prelude.{IfErr, ◌≡◌, ◌≤◌, ◌<◌, ◌+◌, ◌^◌, List, Err, None, IfOk, length, option_and_then, slice_get};
+ghost use Rattle.std.specs.Prelude.{IfErr, ◌≡◌, ◌≤◌, ◌<◌, ◌+◌, ◌-◌, ◌^◌, List, Err, None, IfOk, length, option_and_then, slice_get};
 ghost use Rattle.dk_store.specs.Seen.{IfTold};
 ghost use Rattle.dk_engine.specs.Effects.{OnlyReads};
 ghost use Rattle.std.specs.List.{list_any};

@@ -9,8 +9,8 @@ pub returns-then-next-gt-MAX_VERSION-clause-means : goal.returns-then-next-gt-MA
 returns-then-next-gt-MAX_VERSION-clause-means g c =
     no_next c.args.options.limits c.args.transaction.now c.args.options.now c.args.listing.now c.latest.result c.next_after-next.result c.latest.ensures.value c.next_after-next.ensures _ (search rules)
 
-pub returns-then-version-next-clause-means : goal.returns-then-version-next-clause-means
-returns-then-version-next-clause-means g c =
+pub returns-then-from-next-clause-means : goal.returns-then-from-next-clause-means
+returns-then-from-next-clause-means g c =
     listed_next c.args.options.limits c.args.transaction.now c.args.options.now c.args.listing.now c.latest.result c.next_after-next.result c.latest.ensures.value c.next_after-next.ensures
     {X = Prepared} prepared_as _ c.args.options.now c.writing_at.result refl (search rules)
     (none_next {X = Prepared} prepared_as _ c.args.listing.now c.args.options.limits c.args.transaction.now c.args.options.now _ c.next_after-next.result c.writing_at.result refl (search rules) c.writing_at.ensures.means)

@@ -1,4 +1,4 @@
-use Rattle.std.proofs.Common.{refl, ap, ◌∙◌}
+use Rattle.std.proofs.Common.{ap, ◌∙◌}
 use Rattle.dk_txn.specs.Transactions.{reached_view, At_own, After}
 use Rattle.dk_txn.specs.declared.winners.Found.{Found}
 use Rattle.dk_txn.proofs.Refusals.{read_is_gone}
@@ -18,8 +18,8 @@ returns-in-Ok-Own-clause-means g c =
     (ap (λ (f : Found). reached_view c.read_winners.new.state f) c.in-Ok-Own.field-0-is)
     (c.in-Ok-Own.ensures.means c.args.transaction.now.reads c.deref.result.now c.in_ok-claims.ensures)
 
-pub returns-in-Ok-Others-clause-means : goal.returns-in-Ok-Others-clause-means
-returns-in-Ok-Others-clause-means g c =
+pub returns-clause-means : goal.returns-clause-means
+returns-clause-means g c =
     reach_found c.args.limit c.args.transaction.now c.args.winners.now.first c.in_ok-state.state c.args.winners.now.steps.items c.args.winners.now.sizes.items c.deref.result.now c.as_str.result.now
     c.in_ok-state.ensures c.deref.ensures.value (c.as_str.ensures.value ∙ c.in_ok-id.ensures) _ c.read_winners.new.state c.in-Ok-Others.field-0 (After c.read_winners.new.state c.in-Ok-Others.conflict)
     (ap (λ (f : Found). reached_view c.read_winners.new.state f) c.in-Ok-Others.field-0-is)

@@ -1,8 +1,6 @@
 use Rattle.std.proofs.Common.{rules}
-use Rattle.std.proofs.lemmas.Int.{to_z-of_z}
-use mir.Syntax.{w64}
 use Rattle.dk_txn.specs.Transactions.{by_file_writing}
-use Rattle.dk_txn.proofs.Preparing.{reads_at, written_at, refused_at}
+use Rattle.dk_txn.proofs.Preparing.{reads_at, written_at}
 use Rattle.dk_txn.proofs.prepared.writing_at.Goals as goal
 
 pub returns-in-Ok-within-clause-reads_back : goal.returns-in-Ok-within-clause-reads_back
