@@ -2,7 +2,7 @@
 
 use crate::early::Early;
 use crate::folder::Folder;
-use dk_cli::{fault_line, run};
+use dk_cli::{asks_to_write, fault_line, run};
 use dk_dir::{StdSink, StdSource};
 use dk_engine::{Engine, Limits};
 use dk_handlers::{PlainParquet, SerdeJson};
@@ -43,9 +43,10 @@ fn report<R: Eprint>(rt: &R, answer: &str) {
 
 /// The table's folder: a command that only reads asks for it beside other readers.
 fn folder_for(rt: HostRuntime, path: String, words: &[String]) -> Folder {
-    match words.first() {
-        Some(word) if word.as_str() == "show" => Folder::reading(rt, path),
-        _ => Folder::writing(rt, path),
+    if asks_to_write(words) {
+        Folder::writing(rt, path)
+    } else {
+        Folder::reading(rt, path)
     }
 }
 

@@ -6,13 +6,16 @@ use Rattle.dk_model.specs.declared.action.Action.{Action}
 use Rattle.dk_engine.specs.declared.limits.Limits.{Limits}
 use Rattle.dk_engine.specs.declared.refusal.Refusal.{Refusal}
 use Rattle.dk_engine.specs.declared.refusal.Refusal.TheVariants as refusals
+use Rattle.dk_paths.specs.Numbers.{id_text}
+use Rattle.dk_lawful.specs.History.{commits_of, history}
 use Rattle.dk_lawful.specs.Kept.{IfBoth}
+use Rattle.dk_lawful.specs.Transacted.{transacted}
 use Rattle.dk_txn.specs.Attempt.{Writing, attempt}
-use Rattle.dk_txn.specs.Commits.{Commits, CommitRefuses, HistoryAfterRefusal, SaysHistory}
+use Rattle.dk_txn.specs.Commits.{Commits, CommitRefuses, HistoryAfterRefusal, SaysTransacted}
 use Rattle.dk_cli.specs.declared.status.Status.{Status}
 use Rattle.dk_cli.specs.declared.status.Status.TheVariants as statuses
 use Rattle.dk_cli.specs.Actions.{actions_of}
-use Rattle.dk_cli.specs.Commit.{EndsRefused, CommitEnds, CommitAnswers, EndsHistory, SaysEnd}
+use Rattle.dk_cli.specs.Commit.{EndsRefused, CommitEnds, CommitAnswers, EndsHistory, InputSays, SaysCommitted}
 
 ends_refused : (refusal : Refusal) (meant : Result Writing Refusal) (events : List Told) (later : Option (List Told)) → CommitRefuses refusal meant events later → EndsRefused refusal meant events later
 ends_refused refusals.OutOfMemory meant events later did = inl did
@@ -23,12 +26,10 @@ ends_with : (told : Option (List Told)) (meant : List Told → Result Writing Re
 ends_with None meant old new refusal later same did = tt
 ends_with (Some events) meant old new refusal later same did = (ends_refused refusal (meant events) events later did, same)
 
-pub refused_ends : (told : Option (List Told)) (limits : Limits) (own : List Action) (now passed : ℤ) (base : ℕ) (old new : Option (List ℕ)) (refusal : Refusal) (later : Option (List Told)) → passed ≡ now → new ≡ old
-    → IfSome told (λ events. Commits (attempt events limits own passed base) events (Err refusal) later)
+pub refused_ends : (told : Option (List Told)) (limits : Limits) (own : List Action) (now : ℤ) (base : ℕ) (old new : Option (List ℕ)) (refusal : Refusal) (later : Option (List Told)) → new ≡ old
+    → IfSome told (λ events. Commits (attempt events limits own now base) events (Err refusal) later)
     → IfSome told (λ events. CommitEnds (attempt events limits own now base) events old (statuses.Refused refusal) new later)
-refused_ends told limits own now passed base old new refusal later moment same did =
-    subst (λ (n : ℤ). IfSome told (λ events. CommitEnds (attempt events limits own n base) events old (statuses.Refused refusal) new later)) moment
-    (ends_with told (λ events. attempt events limits own passed base) old new refusal later same did)
+refused_ends told limits own now base old new refusal later same did = ends_with told (λ events. attempt events limits own now base) old new refusal later same did
 
 refused_history : (refusal : Refusal) (commit : List Action) (events later : List Told) (old new : Option (List ℕ)) → HistoryAfterRefusal refusal commit events later
     → EndsHistory commit (statuses.Refused refusal) events later old new
@@ -36,12 +37,13 @@ refused_history refusals.Store commit events later old new after = after
 refused_history refusals.OutOfMemory commit events later old new after = inl after
 refused_history refusal commit events later old new after = after
 
-pub refused_says : (told later : Option (List Told)) (commit : List Action) (old new : Option (List ℕ)) (refusal : Refusal)
-    → IfBoth told later (SaysHistory commit (Err refusal)) → IfBoth told later (SaysEnd commit (statuses.Refused refusal) old new)
-refused_says None None commit old new refusal says = tt
-refused_says None (Some later) commit old new refusal says = says
-refused_says (Some events) None commit old new refusal says = says
-refused_says (Some events) (Some later) commit old new refusal says = λ horizon lawful. refused_history refusal commit events later old new (says horizon lawful)
+pub refused_says : (told later : Option (List Told)) (now : ℤ) (base : ℕ) (actions : List Action) (old new : Option (List ℕ)) (refusal : Refusal)
+    → IfBoth told later (SaysTransacted now base actions (Err refusal)) → IfBoth told later (SaysCommitted now base actions (statuses.Refused refusal) old new)
+refused_says None None now base actions old new refusal says = tt
+refused_says None (Some later) now base actions old new refusal says = says
+refused_says (Some events) None now base actions old new refusal says = says
+refused_says (Some events) (Some later) now base actions old new refusal says =
+    λ horizon lawful. refused_history refusal (transacted (commits_of (history events)) now (id_text base) actions) events later old new (says horizon lawful)
 
 -- the moment that is handed on is that of the call
 pub answers_at : (told : Option (List Told)) (left : Option (List ℕ)) (limits : Limits) (now passed : ℤ) (base : ℕ) (old : Option (List ℕ)) (status : Status) (new : Option (List ℕ)) (later : Option (List Told)) → passed ≡ now
@@ -49,3 +51,9 @@ pub answers_at : (told : Option (List Told)) (left : Option (List ℕ)) (limits 
     → IfSome told (λ events. IfSome left (λ bytes. CommitAnswers (actions_of limits bytes) (λ actions. attempt events limits actions now base) events old status new later))
 answers_at told left limits now passed base old status new later moment answers =
     subst (λ (n : ℤ). IfSome told (λ events. IfSome left (λ bytes. CommitAnswers (actions_of limits bytes) (λ actions. attempt events limits actions n base) events old status new later))) moment answers
+
+pub says_at : (told later : Option (List Told)) (left : Option (List ℕ)) (limits : Limits) (now passed : ℤ) (base : ℕ) (status : Status) (old new : Option (List ℕ)) → passed ≡ now
+    → IfSome left (λ bytes. IfBoth told later (InputSays (actions_of limits bytes) passed base status old new))
+    → IfSome left (λ bytes. IfBoth told later (InputSays (actions_of limits bytes) now base status old new))
+says_at told later left limits now passed base status old new moment says =
+    subst (λ (n : ℤ). IfSome left (λ bytes. IfBoth told later (InputSays (actions_of limits bytes) n base status old new))) moment says

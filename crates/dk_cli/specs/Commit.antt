@@ -11,11 +11,12 @@ use Rattle.dk_conflicts.specs.declared.reads.Reads.{Reads}
 use Rattle.dk_engine.specs.declared.limits.Limits.{Limits}
 use Rattle.dk_engine.specs.declared.refusal.Refusal.{Refusal}
 use Rattle.dk_engine.specs.declared.refusal.Refusal.TheVariants as refusals
-use Rattle.dk_lawful.specs.History.{next_version}
+use Rattle.dk_lawful.specs.History.{commits_of, history, next_version}
 use Rattle.dk_lawful.specs.Ids.{StandsAt, StandsNowhere}
 use Rattle.dk_lawful.specs.Lawful.{Lawful}
 use Rattle.dk_lawful.specs.Kept.{IsSameHistory, HasOneMore}
-use Rattle.dk_txn.specs.Attempt.{Writing, own_commit}
+use Rattle.dk_lawful.specs.Transacted.{transacted}
+use Rattle.dk_txn.specs.Attempt.{Writing}
 use Rattle.dk_txn.specs.declared.commit.Committed.{Committed}
 use Rattle.dk_txn.specs.Commits.{WritesMeant, CommitRefuses}
 use Rattle.dk_txn.specs.Transactions.{Transacts}
@@ -108,10 +109,14 @@ EndsHistory commit _ events later old new = IsSameHistory events later
 abbrev pub SaysEnd : List Action → Status → Option (List ℕ) → Option (List ℕ) → List Told → List Told → Type 0
 SaysEnd commit status old new events later = (horizon : ℤ) → Lawful events horizon → EndsHistory commit status events later old new
 
--- by what the input means: its actions behind the line of this id, or nothing
-abbrev pub InputSays : Result (List Action) Refusal → ℕ → Status → Option (List ℕ) → Option (List ℕ) → List Told → List Told → Type 0
-InputSays (Ok actions) base status old new events later = SaysEnd (own_commit base actions) status old new events later
-InputSays (Err cause) base status old new events later = later ≡ events
+-- over actions that a transaction of this id commits at this moment, as the law of the log has it
+abbrev pub SaysCommitted : ℤ → ℕ → List Action → Status → Option (List ℕ) → Option (List ℕ) → List Told → List Told → Type 0
+SaysCommitted now base actions status old new events later = SaysEnd (transacted (commits_of (history events)) now (id_text base) actions) status old new events later
+
+-- by what the input means: its actions are committed so, or nothing is
+abbrev pub InputSays : Result (List Action) Refusal → ℤ → ℕ → Status → Option (List ℕ) → Option (List ℕ) → List Told → List Told → Type 0
+InputSays (Ok actions) now base status old new events later = SaysCommitted now base actions status old new events later
+InputSays (Err cause) now base status old new events later = later ≡ events
 
 -- ---- once
 

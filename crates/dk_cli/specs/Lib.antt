@@ -12,4 +12,5 @@ pub mod Actions
 pub mod Reading
 pub mod Commit
 pub mod Endings
+pub mod Equipment
 pub mod Effects

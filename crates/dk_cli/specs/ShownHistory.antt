@@ -1,6 +1,6 @@
 -- What `show` answers over a lawful log, by the history of its commits (Delta Lake's PROTOCOL.md, "Delta Log Entries", "Checkpoints",
 -- "Action Reconciliation", "Catalog-managed tables").
-use Rattle.std.specs.Prelude.{ℕ, ℤ, ◌≡◌, ◌<◌, ◌+◌, ◌⊎◌, List, Option, Some, None, Result, Ok, take}
+use Rattle.std.specs.Prelude.{ℕ, ℤ, ◌≡◌, ◌<◌, ◌+◌, ◌⊎◌, List, Option, Some, None, Ok, take}
 use Rattle.std.specs.List.{AllByRecursion}
 use Rattle.dk_store.specs.Told.{Told}
 use Rattle.dk_store.specs.Standings.{standing}

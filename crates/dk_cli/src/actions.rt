@@ -1,7 +1,8 @@
 //! The actions of the program's input, one a line.
-ghost use Rattle.std.specs.Prelude.{◌≡◌, ◌≤◌, ◌<◌, ◌^◌, ◌+◌, ◌↔◌, [], List, ℕ, Err, IfErr, IfSome, OnOk};
+ghost use Rattle.std.specs.Prelude.{◌≡◌, ◌+◌, ◌↔◌, [], List, ℕ, Err, IfErr, IfSome};
 ghost use Rattle.dk_model.specs.CommitText.{reading_of};
 ghost use Rattle.dk_engine.specs.Answers.{AnswersMeant};
+ghost use Rattle.dk_engine.specs.Usual.{AreWithin};
 ghost use Rattle.dk_cli.specs.Actions.{actions_of, one_past, read_actions, InputEnds, InputRefuses, TakesActions};
 ghost use Rattle.dk_cli.specs.Effects.{ReadsSource};
 ghost use Rattle.dk_cli.specs.Reading.{StopsReading};
@@ -15,9 +16,7 @@ use std::alloc::Global;
 
 /// The number that passes a limit of the input.
 fn one_past(limits: Limits, which: Which) -> u64
-    requires input { limits.input < 2 ^ 62 }
-    requires line { limits.line < 2 ^ 62 }
-    requires lines { limits.lines < 2 ^ 62 }
+    requires { AreWithin limits }
     ensures { result ≡ one_past limits which }
 {
     match which {
@@ -45,9 +44,7 @@ fn read_bytes(alloc: Global, json: &mut dyn JsonHandler, bytes: &[u8]) -> Result
 
 /// The status with which the program ends where its input wasn't read.
 fn unread_status(limits: Limits, unread: Unread) -> Status
-    requires input { limits.input < 2 ^ 62 }
-    requires line { limits.line < 2 ^ 62 }
-    requires lines { limits.lines < 2 ^ 62 }
+    requires { AreWithin limits }
     ensures means { (left : List ℕ) → StopsReading limits unread left → TakesActions (Err result) (actions_of limits left) }
     ensures source { (result ≡ Status.SourceFault) ↔ (unread ≡ Unread.Source) }
     ensures ends { InputEnds result }
@@ -69,9 +66,7 @@ pub(crate) fn take_actions<I: Source>(
     input: &mut I,
     limits: Limits,
 ) -> Result<Commit, Status>
-    requires input { limits.input < 2 ^ 62 }
-    requires line { limits.line < 2 ^ 62 }
-    requires lines { limits.lines < 2 ^ 62 }
+    requires { AreWithin limits }
     ensures means { IfSome (I.source_seen input.old).left (λ left. TakesActions result (actions_of limits left)) }
     ensures reads { ReadsSource (limits.input + 1) (I.source_seen input.old) (I.source_seen input.new) result }
     ensures ends { IfErr result InputEnds }

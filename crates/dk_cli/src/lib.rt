@@ -16,4 +16,4 @@ mod words;
 pub use fault::fault_line;
 pub use program::run;
 pub use status::Status;
-pub use words::Command;
+pub use words::{Command, asks_to_write};

@@ -11,6 +11,7 @@ ghost use Rattle.dk_cli.specs.Actions.{actions_of};
 ghost use Rattle.dk_cli.specs.declared.words.Command.TheVariants as commands;
 ghost use Rattle.dk_cli.specs.Commit.{CommitAnswers, InputFirst, InputSays, InputTransacts, SaysOnce};
 ghost use Rattle.dk_cli.specs.Effects.{PutsInStore, ReadsStore, TakesFromSource, WritesToSink};
+ghost use Rattle.dk_cli.specs.Equipment.{KeepsEquipment};
 ghost use Rattle.dk_cli.specs.Endings.{MayEnd, ShowMayEnd};
 ghost use Rattle.dk_cli.specs.Show.{ShowsAs};
 ghost use Rattle.dk_cli.specs.Run.{AnswersText, Asks, AsksToRead, LeavesInput, TakesInput, asked, cut_for};
@@ -21,9 +22,10 @@ use crate::commit::commit_command;
 use crate::show::show_text;
 use crate::status::Status;
 use crate::words::{Command, command_of};
-use dk_engine::{Engine, Refusal};
+use dk_engine::Engine;
 use dk_lawful::Choice;
-use dk_store::{Failed, Sink, Source, Store, give_all};
+use dk_store::{Failed, Sink, Source, give_all};
+use dk_txn::{CommitOptions, Intent};
 use std::alloc::Global;
 
 /// Makes the whole output of `show`, and then gives it to the sink.
@@ -40,7 +42,7 @@ fn show_command<O: Sink>(
     ensures ends { ShowMayEnd at result }
     ensures answer { IfTold (seen (held engine.old.store)) (λ events. AnswersText (ShowsAs events engine.old.limits at choice.now now) (O.sink_seen out.old).taken result (O.sink_seen out.new).taken) }
     ensures lawful { KeepsLawful (seen (held engine.old.store)).told (seen (held engine.new.store)).told }
-    ensures limits { engine.new.limits ≡ engine.old.limits }
+    ensures equipment { KeepsEquipment engine.old engine.new }
 {
     match show_text(alloc, engine, at, choice, now) {
         Err(refusal) => Status::Refused(refusal),
@@ -97,7 +99,7 @@ pub fn run<I: Source, O: Sink>(
     ensures input_first { TakesInput words.now → IfSome (I.source_seen input.old).left (λ left. InputFirst (actions_of engine.old.limits left) result engine.old.store engine.new.store) }
     ensures lawful { KeepsLawfulPast (cut_for (asked words.now)) (seen (held engine.old.store)).told (seen (held engine.new.store)).told }
     ensures history { (reads : Reads) → Asks words.now (commands.Commit reads) → IfSome (I.source_seen input.old).left (λ left. IfBoth (seen (held engine.old.store)).told (seen (held engine.new.store)).told
-        (InputSays (actions_of engine.old.limits left) base result (O.sink_seen out.old).taken (O.sink_seen out.new).taken)) }
+        (InputSays (actions_of engine.old.limits left) now base result (O.sink_seen out.old).taken (O.sink_seen out.new).taken)) }
     ensures once { (reads : Reads) → Asks words.now (commands.Commit reads) → IfBoth (seen (held engine.old.store)).told (seen (held engine.new.store)).told (SaysOnce base result) }
 
     // What it touches, and what stays as it was.
@@ -107,13 +109,16 @@ pub fn run<I: Source, O: Sink>(
     ensures unread { LeavesInput words.now → input.new ≡ input.old }
     ensures writes { WritesToSink (O.sink_seen out.old) (O.sink_seen out.new) result }
     ensures unasked { result ≡ Status.SourceFault → engine.new.store ≡ engine.old.store }
-    ensures limits { engine.new.limits ≡ engine.old.limits }
+    ensures equipment { KeepsEquipment engine.old engine.new }
 {
     match command_of(words) {
         None => Status::Usage,
         Some(Command::Show { at, choice }) => show_command(alloc, engine, out, at, &choice, now),
         Some(Command::Commit { reads }) => {
-            commit_command(alloc, engine, input, out, reads, now, base)
+            let limits = engine.limits;
+            let options = CommitOptions { limits, now };
+            let intent = Intent { reads, id: base };
+            commit_command(alloc, engine, input, out, options, intent)
         }
     }
 }

@@ -6,6 +6,7 @@ ghost use Rattle.dk_engine.specs.Effects.{OnlyReads};
 ghost use Rattle.dk_engine.specs.Held.{held};
 ghost use Rattle.dk_snapshot.specs.Opens.{Opens};
 ghost use Rattle.dk_snapshot.specs.Refusals.{OpenRefuses};
+ghost use Rattle.dk_cli.specs.Equipment.{KeepsEquipment};
 ghost use Rattle.dk_cli.specs.Show.{ShowsAs, text_of_snapshot};
 
 use crate::text::shown_text;
@@ -30,7 +31,7 @@ fn open(
     now: i64,
 ) -> Result<Snapshot, Refusal>
     ensures reads { OnlyReads (seen (held engine.old.store)) (seen (held engine.new.store)) result }
-    ensures limits { engine.new.limits ≡ engine.old.limits }
+    ensures equipment { KeepsEquipment engine.old engine.new }
     ensures refusals { IfErr result (OpenRefuses at) }
     ensures means { IfTold (seen (held engine.old.store)) (λ events. AnswersBy (λ snapshot. snapshot) result (Opens events engine.old.limits at choice.now now)) }
 {
@@ -55,7 +56,7 @@ pub(crate) fn show_text(
     now: i64,
 ) -> Result<Vec<u8>, Refusal>
     ensures reads { OnlyReads (seen (held engine.old.store)) (seen (held engine.new.store)) result }
-    ensures limits { engine.new.limits ≡ engine.old.limits }
+    ensures equipment { KeepsEquipment engine.old engine.new }
     ensures refusals { IfErr result (OpenRefuses at) }
     ensures means { IfTold (seen (held engine.old.store)) (λ events. AnswersBy (λ text. text.items) result (ShowsAs events engine.old.limits at choice.now now)) }
 {

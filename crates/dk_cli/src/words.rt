@@ -2,6 +2,7 @@
 ghost use Rattle.std.specs.Prelude.{◌≡◌, option_copied, string_bytes};
 ghost use Rattle.std.specs.Str.{all_ascii_digits, bytes_eq};
 ghost use Rattle.dk_store.specs.Listing.{behind};
+ghost use Rattle.dk_cli.specs.Run.{asked, writes_log};
 ghost use Rattle.dk_cli.specs.Words.{command_of, commit_asked, is_short, reads_asked, reads_named, show_asked, option_value, version_to_show, version_spelled, words_of};
 
 use dk_conflicts::Reads;
@@ -137,5 +138,16 @@ pub(crate) fn command_of(words: &[String]) -> Option<Command>
         [word, options @ ..] if is_word(word, "show") => show_asked(options),
         [word, options @ ..] if is_word(word, "commit") => commit_asked(options),
         _ => None,
+    }
+}
+
+/// Whether the words ask for a command that changes the log. All other commands only read it, and words that ask for none
+/// leave it. Takes no memory.
+pub fn asks_to_write(words: &[String]) -> bool
+    ensures { result ≡ writes_log (asked words.now) }
+{
+    match command_of(words) {
+        Some(Command::Commit { reads: _ }) => true,
+        Some(Command::Show { at: _, choice: _ }) | None => false,
     }
 }

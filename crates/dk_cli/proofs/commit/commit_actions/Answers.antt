@@ -1,20 +1,16 @@
 use Rattle.std.proofs.Common.{refl}
-use Rattle.std.proofs.lemmas.Int.{to_z-of_z}
-use mir.Syntax.{w64}
-use Rattle.dk_txn.specs.Attempt.{own_commit}
 use Rattle.dk_cli.proofs.Committing.{refused_ends, refused_says}
 use Rattle.dk_cli.proofs.Once.{done_once, refused_once}
 use Rattle.dk_cli.proofs.commit.commit_actions.Goals as goal
 
 pub returns-in-Err-clause-answer : goal.returns-in-Err-clause-answer
-returns-in-Err-clause-answer g c =
-    refused_ends _ c.args.engine.now.limits c.args.actions c.args.now _ c.args.base _ _ c.in-Err.refusal _ (to_z-of_z w64 c.args.now c.ranges.now) refl c.in-Err.ensures.commits
+returns-in-Err-clause-answer g c = refused_ends _ c.args.options.limits c.args.actions c.args.options.now c.args.intent.id _ _ c.in-Err.refusal _ refl c.in-Err.ensures.commits
 
 pub returns-in-Err-clause-history : goal.returns-in-Err-clause-history
-returns-in-Err-clause-history g c = refused_says _ _ (own_commit c.args.base c.args.actions) _ _ c.in-Err.refusal c.in-Err.ensures.history
+returns-in-Err-clause-history g c = refused_says _ _ c.args.options.now c.args.intent.id c.args.actions _ _ c.in-Err.refusal c.in-Err.ensures.history
 
 pub returns-in-Err-clause-once : goal.returns-in-Err-clause-once
-returns-in-Err-clause-once g c = refused_once c.args.base (own_commit c.args.base c.args.actions) _ _ c.in-Err.refusal c.in-Err.ensures.history
+returns-in-Err-clause-once g c = refused_once c.args.options.now c.args.intent.id c.args.actions _ _ c.in-Err.refusal c.in-Err.ensures.history
 
 pub returns-in-Ok-clause-once : goal.returns-in-Ok-clause-once
-returns-in-Ok-clause-once g c = done_once c.args.base c.args.actions c.in-Ok.committed _ _ _ c.in-Ok.ensures.history
+returns-in-Ok-clause-once g c = done_once c.args.options.now c.args.intent.id c.args.actions c.in-Ok.committed _ _ _ c.in-Ok.ensures.history

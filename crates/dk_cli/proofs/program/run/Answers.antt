@@ -3,7 +3,7 @@ use Rattle.std.proofs.lemmas.Int.{to_z-of_z}
 use mir.Syntax.{w64}
 use Rattle.dk_cli.proofs.History.{as_asked, whole_log}
 use Rattle.dk_cli.proofs.ShownHistory.{shows_history}
-use Rattle.dk_cli.proofs.Committing.{answers_at}
+use Rattle.dk_cli.proofs.Committing.{answers_at, says_at}
 use Rattle.dk_lawful.proofs.Calls.{same_is_past_each}
 use Rattle.dk_cli.specs.declared.words.Command.{Command}
 use Rattle.dk_cli.proofs.Touching.{reads_put, stays_lawful}
@@ -20,6 +20,9 @@ returns-in-Some-Show-clause-shows_history g c = λ at choice asks. shows_history
 
 pub returns-in-Some-Commit-clause-commit : goal.returns-in-Some-Commit-clause-commit
 returns-in-Some-Commit-clause-commit g c = λ reads asks. answers_at _ _ c.args.engine.now.limits c.args.now _ c.args.base _ _ _ _ (to_z-of_z w64 c.args.now c.ranges.now) c.commit_command.ensures.answer
+
+pub returns-in-Some-Commit-clause-history : goal.returns-in-Some-Commit-clause-history
+returns-in-Some-Commit-clause-history g c = λ reads asks. says_at _ _ _ c.args.engine.now.limits c.args.now _ c.args.base _ _ _ (to_z-of_z w64 c.args.now c.ranges.now) c.commit_command.ensures.history
 
 pub returns-in-Some-Show-clause-puts : goal.returns-in-Some-Show-clause-puts
 returns-in-Some-Show-clause-puts g c = reads_put c.in-Some-Show.at _ _ _ c.show_command.ensures.ends c.show_command.ensures.reads
