@@ -4,7 +4,7 @@ use Rattle.std.specs.Prelude.{ℕ, Result, Ok, Err}
 use Rattle.dk_model.specs.declared.action.Action.{Action}
 use Rattle.dk_pqmodel.specs.Datum.{Cells}
 use Rattle.dk_pqmodel.specs.FileMeans.{FileMeans}
-use Rattle.dk_engine.specs.Answers.{GivesBy}
+use Rattle.dk_engine.specs.Answers.{AnswersBy}
 use Rattle.dk_engine.specs.declared.refusal.Refusal.{Refusal}
 use Rattle.dk_engine.specs.declared.refusal.Refusal.TheVariants as refusals
 use Rattle.dk_lawful.specs.CheckpointSchema.{read_fields}
@@ -15,7 +15,7 @@ use Rattle.dk_ckread.specs.Reading.{FileRefused, refusal_by, FileAnswers, RowsAn
 
 -- a refusal of a part, where the whole hands it on
 pub refused_by : {X Y Z W : Type 0} (view : X → Y) (other : Z → W) (Part : Result Y Refusal → Type 0) (Whole : Result W Refusal → Type 0)
-    → ((refusal : Refusal) → Part (Err refusal) → Whole (Err refusal)) → (refusal : Refusal) → GivesBy view (Err refusal) Part → GivesBy other (Err refusal) Whole
+    → ((refusal : Refusal) → Part (Err refusal) → Whole (Err refusal)) → (refusal : Refusal) → AnswersBy view (Err refusal) Part → AnswersBy other (Err refusal) Whole
 refused_by view other Part Whole hands refusals.Store means = tt
 refused_by view other Part Whole hands refusals.OutOfMemory means = tt
 refused_by view other Part Whole hands (refusals.Taken path) means = absurd means
@@ -23,18 +23,18 @@ refused_by view other Part Whole hands refusal means = hands _ means
 
 -- the refusal of a file is the object's
 pub file_refused : {X Z : Type 0} (view : X → Cells) (other : Z → List Action) (path bytes : List ℕ) (refusal : Refusal)
-    → GivesBy view (Err refusal) (FileAnswers path bytes) → GivesBy other (Err refusal) (ObjectAnswers path bytes)
+    → AnswersBy view (Err refusal) (FileAnswers path bytes) → AnswersBy other (Err refusal) (ObjectAnswers path bytes)
 file_refused view other path bytes refusal means = refused_by view other (FileAnswers path bytes) (ObjectAnswers path bytes) (λ r fault. inl fault) refusal means
 
 -- what its rows answer is the object's
 pub rows_answer : {Z : Type 0} (view : Z → List Action) (path bytes : List ℕ) (rows : Cells) (result : Result Z Refusal)
-    → FileMeans read_fields bytes rows → GivesBy view result (RowsAnswer path rows) → GivesBy view result (ObjectAnswers path bytes)
+    → FileMeans read_fields bytes rows → AnswersBy view result (RowsAnswer path rows) → AnswersBy view result (ObjectAnswers path bytes)
 rows_answer view path bytes rows (Ok z) means answer = (record { rows = rows; means = means; read = answer.0 }, answer.1)
 rows_answer view path bytes rows (Err refusal) means answer =
     refused_by view view (RowsAnswer path rows) (ObjectAnswers path bytes) (λ r given. inr (rows, means, given)) refusal answer
 
 -- what reading a file says of a fault, as a refusal of the object
-pub file_answers : {X : Type 0} (view : X → Cells) (path bytes : List ℕ) (fault : PqFault) → Reads read_fields bytes (Err fault) → GivesBy view (Err (refusal_by path fault)) (FileAnswers path bytes)
+pub file_answers : {X : Type 0} (view : X → Cells) (path bytes : List ℕ) (fault : PqFault) → Reads read_fields bytes (Err fault) → AnswersBy view (Err (refusal_by path fault)) (FileAnswers path bytes)
 file_answers view path bytes faults.OutOfMemory reads = tt
 file_answers view path bytes faults.Broken reads = (faults.Broken, reads, refl)
 file_answers view path bytes faults.NotParquet reads = (faults.NotParquet, reads, refl)

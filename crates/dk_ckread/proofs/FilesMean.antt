@@ -8,7 +8,7 @@ use lib.Utf8.{encode}
 use Rattle.dk_grammar.specs.Plain as plain
 use Rattle.dk_grammar.specs.Varint.{groups}
 use Rattle.dk_grammar.specs.Runs.{AreFirst, repeated}
-use Rattle.dk_grammar.specs.Structs.{Listed, struct_at}
+use Rattle.dk_grammar.specs.Structs.{FieldValues, struct_at}
 use Rattle.dk_grammar.specs.PageHeaders.{Part, number, inner, part_meaning, SpellsHeader}
 use Rattle.dk_grammar.proofs.StructSpellings.{headers}
 use Rattle.dk_pqmodel.specs.Shape as shape
@@ -23,7 +23,7 @@ use Rattle.dk_pqmodel.specs.FileMeans.{HasTriples, HasColumns, columns_of, FileM
 use Rattle.dk_pqmodel.specs.Projection.{Path, projection}
 use Rattle.dk_pqmeta.proofs.Footers.{footer_found}
 use Rattle.dk_lawful.specs.CheckpointSchema.{read_fields, txn_group, add_group, vector_group, remove_group, format_group, metadata_group, protocol_group, domain_group, checkpoint_group, sidecar_group}
-use Rattle.dk_lawful.specs.RowExample.{of, text, number as number_cell}
+use Rattle.dk_lawful.specs.RowExample.{of, text_cell, number as number_cell}
 use Rattle.dk_ckread.specs.ParquetFiles.{header, page, in_first, in_second, leveled, plain_text, path_page, number_page, flag_page, add_pages, add_footer, add_file, id_page, schema_page, version_page, head_pages, head_footer, head_file, name_page, side_pages, side_footer, side_file, in_first_of_3, in_second_of_3, in_third_of_3, top_id_page, top_schema_page, top_protocol_page, top_version_page, top_pages, top_footer, top_file}
 use Rattle.dk_ckread.specs.ParquetRows.{head_rows, add_rows, side_rows, top_rows}
 
@@ -82,7 +82,7 @@ head_spelled = footer_found head_footer head_said refl
 
 -- ---- pages
 
-abbrev parts : ℕ → ℕ → Listed Part
+abbrev parts : ℕ → ℕ → FieldValues Part
 parts values size =
     (pos 1, number (pos 0)) ∷ (pos 2, number (pos size)) ∷ (pos 3, number (pos size))
     ∷ (pos 5, inner ((pos 1, pos values) ∷ (pos 2, pos 0) ∷ (pos 3, pos 3) ∷ (pos 4, pos 3) ∷ [])) ∷ []
@@ -333,7 +333,7 @@ add_held = (
 
 -- the rows as the file has them
 abbrev add_own : Cells
-add_own = cells_of_list (of (of (text (codes "a") ∷ number_cell 1 ∷ number_cell 5 ∷ atom (cell.flag false) ∷ []) ∷ []) ∷ [])
+add_own = cells_of_list (of (of (text_cell (codes "a") ∷ number_cell 1 ∷ number_cell 5 ∷ atom (cell.flag false) ∷ []) ∷ []) ∷ [])
 
 pub add_file_means : FileMeans read_fields add_file add_rows
 unfolding bytes_on_literals schema_on_literals
@@ -397,7 +397,7 @@ head_held = (
 
 abbrev head_own : Cells
 head_own =
-    cells_of_list (of (null ∷ of (number_cell 1 ∷ number_cell 1 ∷ []) ∷ []) ∷ of (of (text (codes "t") ∷ text (codes "s") ∷ []) ∷ null ∷ []) ∷ [])
+    cells_of_list (of (null ∷ of (number_cell 1 ∷ number_cell 1 ∷ []) ∷ []) ∷ of (of (text_cell (codes "t") ∷ text_cell (codes "s") ∷ []) ∷ null ∷ []) ∷ [])
 
 pub head_file_means : FileMeans read_fields head_file head_rows
 unfolding bytes_on_literals schema_on_literals
@@ -462,7 +462,7 @@ side_held = (
 )
 
 abbrev side_own : Cells
-side_own = cells_of_list (of (of (text (codes "s.parquet") ∷ number_cell 1 ∷ number_cell 2 ∷ []) ∷ []) ∷ [])
+side_own = cells_of_list (of (of (text_cell (codes "s.parquet") ∷ number_cell 1 ∷ number_cell 2 ∷ []) ∷ []) ∷ [])
 
 pub side_file_means : FileMeans read_fields side_file side_rows
 unfolding bytes_on_literals schema_on_literals
@@ -620,7 +620,7 @@ top_held = (
 
 abbrev top_own : Cells
 top_own =
-    cells_of_list (of (null ∷ null ∷ of (number_cell 0 ∷ []) ∷ []) ∷ of (null ∷ of (number_cell 1 ∷ number_cell 1 ∷ []) ∷ null ∷ []) ∷ of (of (text (codes "t") ∷ text (codes "s") ∷ []) ∷ null ∷ null ∷ []) ∷ [])
+    cells_of_list (of (null ∷ null ∷ of (number_cell 0 ∷ []) ∷ []) ∷ of (null ∷ of (number_cell 1 ∷ number_cell 1 ∷ []) ∷ null ∷ []) ∷ of (of (text_cell (codes "t") ∷ text_cell (codes "s") ∷ []) ∷ null ∷ null ∷ []) ∷ [])
 
 pub top_file_means : FileMeans read_fields top_file top_rows
 unfolding bytes_on_literals schema_on_literals

@@ -8,32 +8,32 @@ use Rattle.dk_pqmodel.specs.FooterBytes.{magic}
 -- ---- structs
 
 -- a field of a struct: its id, its kind and its bytes
-pub record Spelled : Type 0 where
+pub record SpelledField : Type 0 where
   pub id : ℤ
   pub kind : ℕ
   pub bytes : List ℕ
 
-abbrev fields_from : ℤ → List Spelled → List ℕ
+abbrev fields_from : ℤ → List SpelledField → List ℕ
 fields_from last [] = end_bytes
 fields_from last (x ∷ xs) = field_bytes last x.id x.kind ++ (x.bytes ++ fields_from x.id xs)
 
-abbrev pub struct : List Spelled → List ℕ
+abbrev pub struct : List SpelledField → List ℕ
 struct fields = fields_from (pos 0) fields
 
 -- numbers of 32 and of 64 bits, texts, lists and structs
-abbrev int : ℕ → ℕ → Spelled
+abbrev int : ℕ → ℕ → SpelledField
 int id n = record { id = pos id; kind = 5; bytes = whole_bytes (pos n) }
 
-abbrev long : ℕ → ℕ → Spelled
+abbrev long : ℕ → ℕ → SpelledField
 long id n = record { id = pos id; kind = 6; bytes = whole_bytes (pos n) }
 
-abbrev text : ℕ → List ℕ → Spelled
+abbrev text : ℕ → List ℕ → SpelledField
 text id t = record { id = pos id; kind = 8; bytes = binary_bytes t }
 
-abbrev list : ℕ → ℕ → List (List ℕ) → Spelled
+abbrev list : ℕ → ℕ → List (List ℕ) → SpelledField
 list id kind elements = record { id = pos id; kind = 9; bytes = list_bytes (length elements) kind ++ flat_map (λ bytes. bytes) elements }
 
-abbrev inner : ℕ → List ℕ → Spelled
+abbrev inner : ℕ → List ℕ → SpelledField
 inner id bytes = record { id = pos id; kind = 12; bytes = bytes }
 
 -- ---- pages
@@ -61,10 +61,10 @@ plain_text t = little 4 (length t) ++ t
 -- ---- footers
 
 -- elements of the schema: the root, groups and their leaves, which are required
-abbrev pub root : ℕ → List ℕ
+abbrev root : ℕ → List ℕ
 root children = struct (text 4 (codes "schema") ∷ int 5 children ∷ [])
 
-abbrev pub group : ℕ → List ℕ → ℕ → List ℕ
+abbrev group : ℕ → List ℕ → ℕ → List ℕ
 group repetition name children = struct (int 3 repetition ∷ text 4 name ∷ int 5 children ∷ [])
 
 abbrev pub leaf : ℕ → List ℕ → List ℕ

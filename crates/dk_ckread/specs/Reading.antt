@@ -81,11 +81,11 @@ ClassicAnswers events limit path answer = IfFits limit (stored_size events path)
 
 -- ---- which refusals there are
 
-abbrev pub ReadRefuses : Refusal → Type 0
-ReadRefuses refusals.Store = Unit {0}
-ReadRefuses (refusals.Missing path) = Unit {0}
-ReadRefuses (refusals.Unsupported name) = Unit {0}
-ReadRefuses (refusals.Damaged path place) = Unit {0}
-ReadRefuses (refusals.Limit which value) = Unit {0}
-ReadRefuses refusals.OutOfMemory = Unit {0}
-ReadRefuses _ = ⊥
+abbrev pub ReadCheckpointRefuses : Refusal → Type 0
+ReadCheckpointRefuses refusals.Store = Unit {0}
+ReadCheckpointRefuses (refusals.Missing path) = Unit {0}
+ReadCheckpointRefuses (refusals.Unsupported name) = Unit {0}
+ReadCheckpointRefuses (refusals.Damaged path place) = Unit {0}
+ReadCheckpointRefuses (refusals.Limit which value) = Unit {0}
+ReadCheckpointRefuses refusals.OutOfMemory = Unit {0}
+ReadCheckpointRefuses _ = ⊥

@@ -4,10 +4,10 @@ ghost use Rattle.std.specs.List.{list_any};
 ghost use Rattle.dk_store.specs.Seen.{IfTold, StoreReads};
 ghost use Rattle.dk_store.specs.Objects.{content};
 ghost use Rattle.dk_pqmodel.specs.RowView.{rows_of};
-ghost use Rattle.dk_engine.specs.Answers.{GivesBy};
+ghost use Rattle.dk_engine.specs.Answers.{AnswersBy};
 ghost use Rattle.dk_engine.specs.Effects.{OnlyReads};
 ghost use Rattle.dk_listing.specs.Sizes.{stored_size};
-ghost use Rattle.dk_ckread.specs.Reading.{ClassicAnswers, FileAnswers, FoundAnswers, ObjectAnswers, ReadRefuses, RowsAnswer, is_sidecar};
+ghost use Rattle.dk_ckread.specs.Reading.{ClassicAnswers, FileAnswers, FoundAnswers, ObjectAnswers, ReadCheckpointRefuses, RowsAnswer, is_sidecar};
 
 use crate::fault::{damaged, refusal_by};
 use dk_engine::{ParquetHandler, Refusal, Which};
@@ -25,9 +25,9 @@ fn read_rows(
     path: &str,
     bytes: &[u8],
 ) -> Result<Vec<Row>, Refusal>
-    ensures means { GivesBy (λ rows. rows_of rows.items) result (FileAnswers path.now bytes.now) }
+    ensures means { AnswersBy (λ rows. rows_of rows.items) result (FileAnswers path.now bytes.now) }
     ensures store { result ≡ Err Refusal.Store → ⊥ }
-    ensures refusals { IfErr result ReadRefuses }
+    ensures refusals { IfErr result ReadCheckpointRefuses }
 {
     let wanted = read_schema(alloc)?;
     match parquet.read_rows(alloc, bytes, &wanted) {
@@ -59,9 +59,9 @@ fn has_sidecar(actions: &[Action]) -> bool
 
 /// The actions of the rows of the object at the path.
 fn actions_in(alloc: Global, path: &str, rows: &[Row]) -> Result<Vec<Action>, Refusal>
-    ensures means { GivesBy (λ actions. actions.items) result (RowsAnswer path.now (rows_of rows.now)) }
+    ensures means { AnswersBy (λ actions. actions.items) result (RowsAnswer path.now (rows_of rows.now)) }
     ensures store { result ≡ Err Refusal.Store → ⊥ }
-    ensures refusals { IfErr result ReadRefuses }
+    ensures refusals { IfErr result ReadCheckpointRefuses }
 {
     let actions = match actions_of_rows(alloc, rows) {
         Ok(actions) => actions,
@@ -82,9 +82,9 @@ fn read_bytes(
     path: &str,
     bytes: &[u8],
 ) -> Result<Vec<Action>, Refusal>
-    ensures means { GivesBy (λ actions. actions.items) result (ObjectAnswers path.now bytes.now) }
+    ensures means { AnswersBy (λ actions. actions.items) result (ObjectAnswers path.now bytes.now) }
     ensures store { result ≡ Err Refusal.Store → ⊥ }
-    ensures refusals { IfErr result ReadRefuses }
+    ensures refusals { IfErr result ReadCheckpointRefuses }
 {
     let rows = read_rows(alloc, parquet, path, bytes)?;
     actions_in(alloc, path, &rows)
@@ -97,9 +97,9 @@ fn read_object(
     path: &str,
     object: Option<Vec<u8>>,
 ) -> Result<Vec<Action>, Refusal>
-    ensures means { GivesBy (λ actions. actions.items) result (FoundAnswers path.now (option_map (λ bytes. bytes.items) object)) }
+    ensures means { AnswersBy (λ actions. actions.items) result (FoundAnswers path.now (option_map (λ bytes. bytes.items) object)) }
     ensures store { result ≡ Err Refusal.Store → ⊥ }
-    ensures refusals { IfErr result ReadRefuses }
+    ensures refusals { IfErr result ReadCheckpointRefuses }
 {
     match object {
         Some(bytes) => read_bytes(alloc, parquet, path, &bytes),
@@ -125,8 +125,8 @@ fn read_found(
     path: &str,
 ) -> Result<Vec<Action>, Refusal>
     ensures reads { OnlyReads (seen store.old) (seen store.new) result }
-    ensures refusals { IfErr result ReadRefuses }
-    ensures means { IfTold (seen store.old) (λ events. GivesBy (λ actions. actions.items) result (FoundAnswers path.now (content events path.now))) }
+    ensures refusals { IfErr result ReadCheckpointRefuses }
+    ensures means { IfTold (seen store.old) (λ events. AnswersBy (λ actions. actions.items) result (FoundAnswers path.now (content events path.now))) }
 {
     let object = get_object(store, path)?;
     read_object(alloc, parquet, path, object)
@@ -149,8 +149,8 @@ pub fn read_classic(
     limit: u64,
 ) -> Result<Vec<Action>, Refusal>
     ensures reads { OnlyReads (seen store.old) (seen store.new) result }
-    ensures refusals { IfErr result ReadRefuses }
-    ensures means { IfTold (seen store.old) (λ events. size ≡ stored_size events path.now → GivesBy (λ actions. actions.items) result (ClassicAnswers events limit path.now)) }
+    ensures refusals { IfErr result ReadCheckpointRefuses }
+    ensures means { IfTold (seen store.old) (λ events. size ≡ stored_size events path.now → AnswersBy (λ actions. actions.items) result (ClassicAnswers events limit path.now)) }
 {
     match size {
         Some(size) if size > limit => Err(Refusal::Limit {

@@ -8,7 +8,7 @@ use Rattle.dk_engine.specs.declared.refusal.Refusal.{Refusal}
 use Rattle.dk_engine.specs.declared.refusal.Refusal.TheVariants as refusals
 use Rattle.dk_lawful.specs.declared.segment.Choice.{Choice}
 use Rattle.dk_engine.specs.declared.limits.Limits.{Limits}
-use Rattle.dk_snapshot.specs.History.{IsLog, EndsWith, AreWithin, AsksFor}
+use Rattle.dk_snapshot.specs.History.{IsLog, EndsWith, AreCommitsWithin, AsksFor}
 use Rattle.dk_snapshot.specs.Support.{IsRead, cut_before}
 use Rattle.dk_snapshot.specs.Opening.{snapshot_with, with_cut, opened}
 use Rattle.dk_snapshot.specs.Steps.{oldest_path}
@@ -44,7 +44,7 @@ module _ (Means : Result (List ℕ) Refusal → Type 0) (text : List ℕ) (one :
 
 -- the text of a version of a log, where it is one that is read
 log_text : (events : List Told) (limits : Limits) (at : Option ℕ) (choice : Choice) (now : ℤ) (log : List (List Action)) (version : ℕ) (kept : ℤ) → choice.staged_first ≡ false → IsLog events log → EndsWith events (length log)
-    → AreWithin limits.object events → AsksFor at log version → IsRead (fold (take (version + 1) log)) kept
+    → AreCommitsWithin limits.object events → AsksFor at log version → IsRead (fold (take (version + 1) log)) kept
     → text_of_opened (opened events limits at choice now) ≡ Ok (shown version (fold (take (version + 1) log)) (cut_before now kept))
 log_text events limits at choice now log version kept published is ends within asks read =
     ap text_of_opened (opened_is events log limits at choice version now published is ends within asks)

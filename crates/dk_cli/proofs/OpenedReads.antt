@@ -21,9 +21,9 @@ use Rattle.dk_snapshot.specs.declared.table.Snapshot.{Snapshot}
 use Rattle.dk_snapshot.specs.Asked.{version_asked}
 use Rattle.dk_snapshot.specs.Opening.{snapshot_with, with_cut}
 use Rattle.dk_snapshot.specs.Opens.{BaseIsRead, oldest_object, state_behind, OpensChosen, OpensAsked, Opens}
-use Rattle.dk_snapshot.specs.Steps.{commits_of}
+use Rattle.dk_snapshot.specs.Steps.{commits_of_steps}
 use Rattle.dk_snapshot.specs.Support.{has_vectors, unreadable, retention_key, retention, cut_before, cut_unless, cut_with, cut_of}
-use Rattle.dk_cli.specs.ShownHistory.{IsFoldOf, IsReadFrom}
+use Rattle.dk_cli.specs.ShownHistory.{IsFoldOf, IsReadWithCut}
 
 -- ---- the tests of a table
 
@@ -44,7 +44,7 @@ unfolding unread_name
 is_unread protocol none = none_behind (fault_name protocol) (unread protocol) none
 
 module _ (state : TableState) (now cut : ℤ) (protocol : Protocol) (metadata : Metadata) (has_protocol : state.protocol ≡ Some protocol) (has_metadata : state.metadata ≡ Some metadata) where
-  tests_passed : (found : Option (List ℕ)) (kept : Option ℤ) → unreadable protocol state.files ≡ found → retention metadata ≡ kept → cut_unless found kept now ≡ Ok cut → IsReadFrom state now cut
+  tests_passed : (found : Option (List ℕ)) (kept : Option ℤ) → unreadable protocol state.files ≡ found → retention metadata ≡ kept → cut_unless found kept now ≡ Ok cut → IsReadWithCut state now cut
   tests_passed (Some name) kept none keeps is = absurd (let fails : ◌≡◌ {A = Result ℤ Refusal} (Err (Unsupported name)) (Ok cut) = is in cc)
   tests_passed None None none keeps is = absurd (let fails : ◌≡◌ {A = Result ℤ Refusal} (Err (Unsupported retention_key)) (Ok cut) = is in cc)
   tests_passed None (Some kept) none keeps is =
@@ -62,10 +62,10 @@ module _ (state : TableState) (now cut : ℤ) (protocol : Protocol) (metadata : 
         (let same : ◌≡◌ {A = Result ℤ Refusal} (Ok (cut_before now kept)) (Ok cut) = is in cc),
       )
 
-state_reads : (oldest : List ℕ) (state : TableState) (now cut : ℤ) → cut_of oldest state now ≡ Ok cut → IsReadFrom state now cut
+state_reads : (oldest : List ℕ) (state : TableState) (now cut : ℤ) → cut_of oldest state now ≡ Ok cut → IsReadWithCut state now cut
 state_reads oldest state now cut cuts = by state.protocol state.metadata refl refl cuts
   where
-    by : (protocol : Option Protocol) (metadata : Option Metadata) → state.protocol ≡ protocol → state.metadata ≡ metadata → cut_with oldest protocol metadata state.files now ≡ Ok cut → IsReadFrom state now cut
+    by : (protocol : Option Protocol) (metadata : Option Metadata) → state.protocol ≡ protocol → state.metadata ≡ metadata → cut_with oldest protocol metadata state.files now ≡ Ok cut → IsReadWithCut state now cut
     by (Some protocol) (Some metadata) has_protocol has_metadata is =
         tests_passed state now cut protocol metadata has_protocol has_metadata (unreadable protocol state.files) (retention metadata) refl refl is
     by (Some protocol) None has_protocol has_metadata is = absurd (let fails : ◌≡◌ {A = Result ℤ Refusal} (Err (Damaged oldest 0)) (Ok cut) = is in cc)
@@ -75,7 +75,7 @@ state_reads oldest state now cut cuts = by state.protocol state.metadata refl re
 
 pub record IsReadOf (events : List Told) (limits : Limits) (now : ℤ) (snapshot : Snapshot) : Type 0 where
   pub folds : IsFoldOf events limits snapshot.segment snapshot.state
-  pub read : IsReadFrom snapshot.state now snapshot.cut
+  pub read : IsReadWithCut snapshot.state now snapshot.cut
 
 module _ (events : List Told) (limits : Limits) (now : ℤ) (snapshot : Snapshot) where
   module _ (version : ℕ) (segment : Segment) where
@@ -90,7 +90,7 @@ module _ (events : List Told) (limits : Limits) (now : ℤ) (snapshot : Snapshot
         same : snapshot ≡ made
         same = let both : ◌≡◌ {A = Result Snapshot Refusal} (Ok snapshot) (Ok made) = is in cc
 
-    over_read : (base : Result (List Action) Refusal) (commits : Result (List (List Action)) Refusal) → BaseIsRead events limits segment.base base → commits_of events limits.object segment.steps ≡ commits
+    over_read : (base : Result (List Action) Refusal) (commits : Result (List (List Action)) Refusal) → BaseIsRead events limits segment.base base → commits_of_steps events limits.object segment.steps ≡ commits
         → Ok snapshot ≡ snapshot_with version segment (state_behind (oldest_object segment.base segment.steps) now base commits) → IsReadOf events limits now snapshot
     over_read base (Err refusal) read are is = absurd (let fails : ◌≡◌ {A = Result Snapshot Refusal} (Ok snapshot) (Err refusal) = is in cc)
     over_read (Err refusal) (Ok commits) read are is = absurd (let fails : ◌≡◌ {A = Result Snapshot Refusal} (Ok snapshot) (Err refusal) = is in cc)
@@ -104,7 +104,7 @@ module _ (events : List Told) (limits : Limits) (now : ℤ) (snapshot : Snapshot
     where
       by : (segment : Result Segment Refusal) → OpensChosen events limits now version segment (Ok snapshot) → IsReadOf events limits now snapshot
       by (Err refusal) is = absurd (let fails : ◌≡◌ {A = Result Snapshot Refusal} (Ok snapshot) (Err refusal) = is in cc)
-      by (Ok segment) (base, read, is) = over_read version segment base (commits_of events limits.object segment.steps) read refl is
+      by (Ok segment) (base, read, is) = over_read version segment base (commits_of_steps events limits.object segment.steps) read refl is
 
 pub opened_reads : (events : List Told) (limits : Limits) (at : Option ℕ) (choice : Choice) (now : ℤ) (snapshot : Snapshot) → Opens events limits at choice now (Ok snapshot) → IsReadOf events limits now snapshot
 opened_reads events limits at choice now snapshot opens = asked_read events limits now snapshot choice (version_asked at (latest events)) opens

@@ -4,7 +4,7 @@ use Rattle.std.specs.Prelude.{Option, Some, None, Result, Ok, Err, IfSome}
 use Rattle.dk_store.specs.Told.{Told}
 use Rattle.dk_engine.specs.declared.refusal.Refusal.{Refusal}
 use Rattle.dk_engine.specs.declared.refusal.Refusal.TheVariants as refusals
-use Rattle.dk_engine.specs.Answers.{GivesBy}
+use Rattle.dk_engine.specs.Answers.{AnswersBy}
 use Rattle.dk_engine.specs.declared.limits.Limits.{Limits}
 use Rattle.dk_lawful.specs.declared.segment.Choice.{Choice}
 use Rattle.dk_snapshot.specs.declared.table.Snapshot.{Snapshot}
@@ -15,7 +15,7 @@ use Rattle.dk_cli.specs.Show.{ShowsAs, text_of_opened, text_of_snapshot}
 
 -- a refusal of opening is that of showing
 refusal_shown : {X : Type 0} (view : X → List ℕ) (events : List Told) (limits : Limits) (at : Option ℕ) (choice : Choice) (now : ℤ) (refusal : Refusal)
-    → GivesBy {X = Snapshot} (λ snapshot. snapshot) (Err refusal) (Opens events limits at choice now) → GivesBy {X = X} view (Err refusal) (ShowsAs events limits at choice now)
+    → AnswersBy {X = Snapshot} (λ snapshot. snapshot) (Err refusal) (Opens events limits at choice now) → AnswersBy {X = X} view (Err refusal) (ShowsAs events limits at choice now)
 refusal_shown {X = X} view events limits at choice now refusals.Store opens = tt
 refusal_shown {X = X} view events limits at choice now refusals.OutOfMemory opens = tt
 refusal_shown {X = X} view events limits at choice now (refusals.Taken path) opens = absurd opens
@@ -23,18 +23,18 @@ refusal_shown {X = X} view events limits at choice now refusal opens = (Err refu
 
 module _ (limits : Limits) (at : Option ℕ) (choice : Choice) (now : ℤ) where
   abbrev OpensSo : ℤ → Result Snapshot Refusal → List Told → Type 0
-  OpensSo moment result events = GivesBy {X = Snapshot} (λ snapshot. snapshot) result (Opens events limits at choice moment)
+  OpensSo moment result events = AnswersBy {X = Snapshot} (λ snapshot. snapshot) result (Opens events limits at choice moment)
 
   at_moment : (told : Option (List Told)) (passed : ℤ) (result : Result Snapshot Refusal) → passed ≡ now → IfSome told (OpensSo passed result) → IfSome told (OpensSo now result)
   at_moment told passed result same opens = subst (λ (n : ℤ). IfSome told (OpensSo n result)) same opens
 
   told_refused : {X : Type 0} (view : X → List ℕ) (told : Option (List Told)) (refusal : Refusal) → IfSome told (OpensSo now (Err refusal))
-      → IfSome told (λ events. GivesBy {X = X} view (Err refusal) (ShowsAs events limits at choice now))
+      → IfSome told (λ events. AnswersBy {X = X} view (Err refusal) (ShowsAs events limits at choice now))
   told_refused {X = X} view None refusal opens = tt
   told_refused {X = X} view (Some events) refusal opens = refusal_shown view events limits at choice now refusal opens
 
   pub show_refused : {X : Type 0} (view : X → List ℕ) (told : Option (List Told)) (passed : ℤ) (refusal : Refusal) → passed ≡ now → IfSome told (OpensSo passed (Err refusal))
-      → IfSome told (λ events. GivesBy {X = X} view (Err refusal) (ShowsAs events limits at choice now))
+      → IfSome told (λ events. AnswersBy {X = X} view (Err refusal) (ShowsAs events limits at choice now))
   show_refused {X = X} view told passed refusal same opens = told_refused view told refusal (at_moment told passed (Err refusal) same opens)
 
   told_done : (told : Option (List Told)) (snapshot : Snapshot) (text : List ℕ) → text ≡ text_of_snapshot snapshot → IfSome told (OpensSo now (Ok snapshot))
@@ -51,13 +51,13 @@ module _ (limits : Limits) (at : Option ℕ) (choice : Choice) (now : ℤ) where
   shows_is events meant (opens, are, is) = is ∙ sym (ap text_of_opened (opens_is events limits at choice now opens are))
 
 -- the refusal of a meaning, whatever it is seen by
-text_refused : {X : Type 0} (view : X → List ℕ) (refusal : Refusal) (Means : Result (List ℕ) Refusal → Type 0) → GivesBy {X = X} view (Err refusal) Means → GivesBy {X = List ℕ} (λ text. text) (Err refusal) Means
+text_refused : {X : Type 0} (view : X → List ℕ) (refusal : Refusal) (Means : Result (List ℕ) Refusal → Type 0) → AnswersBy {X = X} view (Err refusal) Means → AnswersBy {X = List ℕ} (λ text. text) (Err refusal) Means
 text_refused {X = X} view refusals.Store Means gives = tt
 text_refused {X = X} view refusals.OutOfMemory Means gives = tt
 text_refused {X = X} view (refusals.Taken path) Means gives = absurd gives
 text_refused {X = X} view refusal Means gives = gives
 
 pub refused_text : {X : Type 0} (view : X → List ℕ) (told : Option (List Told)) (refusal : Refusal) (Means : List Told → Result (List ℕ) Refusal → Type 0) (old new : Option (List ℕ)) → new ≡ old
-    → IfSome told (λ events. GivesBy {X = X} view (Err refusal) (Means events)) → IfSome told (λ events. GivesBy {X = List ℕ} (λ text. text) (Err refusal) (Means events) × (new ≡ old))
+    → IfSome told (λ events. AnswersBy {X = X} view (Err refusal) (Means events)) → IfSome told (λ events. AnswersBy {X = List ℕ} (λ text. text) (Err refusal) (Means events) × (new ≡ old))
 refused_text {X = X} view None refusal Means old new same gives = tt
 refused_text {X = X} view (Some events) refusal Means old new same gives = (text_refused view refusal (Means events) gives, same)

@@ -15,7 +15,7 @@ use Rattle.dk_engine.specs.declared.limits.Limits.{Limits}
 use Rattle.dk_engine.specs.declared.limits.Which.TheVariants.{Object}
 use Rattle.dk_engine.specs.declared.refusal.Refusal.{Refusal}
 use Rattle.dk_engine.specs.declared.refusal.Refusal.TheVariants as refusals
-use Rattle.dk_engine.specs.Answers.{GivesBy}
+use Rattle.dk_engine.specs.Answers.{AnswersBy}
 use Rattle.dk_snapshot.specs.declared.table.Snapshot.{Snapshot}
 use Rattle.dk_snapshot.specs.LawfulOpens.{AsksVersion, segment_by, IsVersionOf, AnswersVersion}
 use Rattle.dk_snapshot.specs.Opens.{Opens}
@@ -104,7 +104,7 @@ module _ (events : List Told) (horizon : ℤ) (lawful : Lawful events horizon) (
       let same : refusal ≡ other = same_refusal {A = List ℕ} refusal other is in
       subst (λ (r : Refusal). HasNoText events limits at choice now r) (sym same) (opened_refused at other (next_version events) refl are)
 
-  meant_refused : (at : Option ℕ) (refusal : Refusal) → GivesBy {X = List ℕ} (λ text. text) (Err refusal) (ShowsAs events limits at choice now) → HasNoText events limits at choice now refusal
+  meant_refused : (at : Option ℕ) (refusal : Refusal) → AnswersBy {X = List ℕ} (λ text. text) (Err refusal) (ShowsAs events limits at choice now) → HasNoText events limits at choice now refusal
   meant_refused at refusals.Store means = tt
   meant_refused at refusals.OutOfMemory means = tt
   meant_refused at (refusals.Taken path) means = absurd means

@@ -17,7 +17,7 @@ use Rattle.dk_lawful.specs.Lawful.{Lawful}
 use Rattle.dk_lawful.specs.Kept.{IsSameHistory, HasOneMore}
 use Rattle.dk_txn.specs.Attempt.{Writing, own_commit}
 use Rattle.dk_txn.specs.declared.commit.Committed.{Committed}
-use Rattle.dk_txn.specs.Commits.{Writes, CommitRefuses}
+use Rattle.dk_txn.specs.Commits.{WritesMeant, CommitRefuses}
 use Rattle.dk_txn.specs.Transactions.{Transacts}
 use Rattle.dk_cli.specs.declared.status.Status.{Status}
 use Rattle.dk_cli.specs.declared.status.Status.TheVariants as statuses
@@ -35,7 +35,7 @@ Untouched events old new later = (later ≡ Some events) × (new ≡ old)
 
 -- what is meant was put, as some version
 abbrev pub WritesSome : Result Writing Refusal → List Told → Option (List Told) → Type 0
-WritesSome meant events later = (version : ℕ) × Writes meant events version later
+WritesSome meant events later = (version : ℕ) × WritesMeant meant events version later
 
 -- Want of memory may come after the commit, at its answer; else a refusal did what it does to a commit.
 abbrev pub EndsRefused : Refusal → Result Writing Refusal → List Told → Option (List Told) → Type 0
@@ -44,9 +44,9 @@ EndsRefused refusal meant events later = CommitRefuses refusal meant events late
 
 -- With Done the commit stands and the sink took the line of its version; with SinkFault it stands and the sink took a beginning of that.
 abbrev pub CommitEnds : Result Writing Refusal → List Told → Option (List ℕ) → Status → Option (List ℕ) → Option (List Told) → Type 0
-CommitEnds meant events old statuses.Done new later = (version : ℕ) × Writes meant events version later × (new ≡ more old (committed_line version))
+CommitEnds meant events old statuses.Done new later = (version : ℕ) × WritesMeant meant events version later × (new ≡ more old (committed_line version))
 CommitEnds meant events old statuses.SinkFault new later =
-    (version : ℕ) × (count : ℕ) × Writes meant events version later × (new ≡ more old (take count (committed_line version)))
+    (version : ℕ) × (count : ℕ) × WritesMeant meant events version later × (new ≡ more old (take count (committed_line version)))
 CommitEnds meant events old (statuses.Refused refusal) new later = EndsRefused refusal meant events later × (new ≡ old)
 CommitEnds meant events old statuses.SourceFault new later = Untouched events old new later
 CommitEnds meant events old statuses.Usage new later = ⊥

@@ -5,12 +5,12 @@ use Rattle.dk_store.specs.Listing.{listing}
 use Rattle.dk_store.specs.Stream.{more}
 use Rattle.dk_paths.specs.declared.log_name.LogName.{LogName}
 use Rattle.dk_paths.specs.declared.log_name.LogName.TheVariants as names
-use Rattle.dk_paths.specs.Names.{name_of}
+use Rattle.dk_paths.specs.Names.{log_name_of}
 use Rattle.dk_model.specs.declared.action.Action.{Action}
 use Rattle.dk_model.specs.State.{fold}
 use Rattle.dk_lawful.specs.declared.segment.Choice.{Choice}
 use Rattle.dk_engine.specs.declared.limits.Limits.{Limits}
-use Rattle.dk_snapshot.specs.History.{IsLog, EndsWith, AreWithin, AsksFor}
+use Rattle.dk_snapshot.specs.History.{IsLog, EndsWith, AreCommitsWithin, AsksFor}
 use Rattle.dk_snapshot.specs.Support.{IsRead, cut_before}
 use Rattle.dk_cli.specs.Shown.{shown}
 use Rattle.dk_engine.specs.declared.refusal.Refusal.TheVariants as refusals
@@ -36,12 +36,12 @@ IsNoSum name = ⊥
 
 -- the log is read from its commits: its folder has no checkpoint and no compacted file, and published commits come before staged ones
 pub record IsReadByCommits (events : List Told) (choice : Choice) : Type 0 where
-  pub no_sums : All (λ entry. IsNoSum (name_of entry.name)) (listing events (codes "_delta_log") [])
+  pub no_sums : All (λ entry. IsNoSum (log_name_of entry.name)) (listing events (codes "_delta_log") [])
   pub published : choice.staged_first ≡ false
 
 -- Over a log of commit files alone, none over the limit, of which the asked version is one that is read, the answer shows the fold of the
 -- commits up to it.
 abbrev pub ShowsLog : List Told → Limits → Option ℕ → Choice → ℤ → Option (List ℕ) → Status → Option (List ℕ) → Type 0
 ShowsLog events limits at choice now old status new =
-    (log : List (List Action)) (version : ℕ) (kept : ℤ) → IsLog events log → EndsWith events (length log) → IsReadByCommits events choice → AreWithin limits.object events → AsksFor at log version
+    (log : List (List Action)) (version : ℕ) (kept : ℤ) → IsLog events log → EndsWith events (length log) → IsReadByCommits events choice → AreCommitsWithin limits.object events → AsksFor at log version
     → IsRead (fold (take (version + 1) log)) kept → ShowsText (shown version (fold (take (version + 1) log)) (cut_before now kept)) old status new

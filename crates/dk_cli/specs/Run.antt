@@ -8,7 +8,7 @@ use Rattle.dk_cli.specs.declared.words.Command.TheVariants as commands
 use Rattle.dk_cli.specs.declared.status.Status.{Status}
 use Rattle.dk_cli.specs.declared.status.Status.TheVariants as statuses
 use Rattle.dk_engine.specs.declared.refusal.Refusal.{Refusal}
-use Rattle.dk_engine.specs.Answers.{GivesBy}
+use Rattle.dk_engine.specs.Answers.{AnswersBy}
 
 -- the command that the words ask for, if they ask for one
 abbrev pub asked : List (String Global) → Option Command
@@ -52,6 +52,6 @@ TakesInput words = takes_input (asked words) ≡ true
 abbrev pub AnswersText : (Result (List ℕ) Refusal → Type 0) → Option (List ℕ) → Status → Option (List ℕ) → Type 0
 AnswersText Means old statuses.Done new = (text : List ℕ) × Means (Ok text) × (new ≡ more old text)
 AnswersText Means old statuses.SinkFault new = (text : List ℕ) × (count : ℕ) × Means (Ok text) × (new ≡ more old (take count text))
-AnswersText Means old (statuses.Refused refusal) new = GivesBy {X = List ℕ} (λ text. text) (Err refusal) Means × (new ≡ old)
+AnswersText Means old (statuses.Refused refusal) new = AnswersBy {X = List ℕ} (λ text. text) (Err refusal) Means × (new ≡ old)
 AnswersText Means old statuses.Usage new = ⊥
 AnswersText Means old statuses.SourceFault new = ⊥

@@ -24,7 +24,7 @@ use Rattle.dk_engine.specs.declared.refusal.Refusal.{Refusal}
 use Rattle.dk_engine.specs.declared.refusal.Refusal.TheVariants as refusals
 use Rattle.dk_snapshot.specs.LawfulOpens.{AsksVersion, IsKeptBy, segment_by, RefusesTable, AreWithinLimit, IsNewestOver}
 use Rattle.dk_snapshot.specs.Opens.{BaseIsRead}
-use Rattle.dk_snapshot.specs.Steps.{commits_of}
+use Rattle.dk_snapshot.specs.Steps.{commits_of_steps}
 use Rattle.dk_snapshot.specs.Support.{IsRead, cut_before}
 use Rattle.dk_cli.specs.Shown.{shown}
 use Rattle.dk_cli.specs.declared.status.Status.{Status}
@@ -50,7 +50,7 @@ AsksAbove events (Some asked) last = (last + 1 ≡ next_version events) × (last
 -- the state that the objects of a segment make up: the actions of its checkpoint first, and then its commits
 abbrev pub IsFoldOf : List Told → Limits → Segment → TableState → Type 0
 IsFoldOf events limits segment state = (base : List Action) × (commits : List (List Action)) × BaseIsRead events limits segment.base (Ok base)
-    × (commits_of events limits.object segment.steps ≡ Ok commits) × (state ≡ steps_of_all (steps empty_state base) commits)
+    × (commits_of_steps events limits.object segment.steps ≡ Ok commits) × (state ≡ steps_of_all (steps empty_state base) commits)
 
 abbrev pub IsCommitStep : Step → Type 0
 IsCommitStep (step_kinds.Commit version path) = Unit {0}
@@ -62,8 +62,8 @@ pub record IsOfCommits (segment : Segment) : Type 0 where
   pub commits : AllByRecursion IsCommitStep segment.steps
 
 -- the table of the state is one that is read, and removed files are told from this moment on
-abbrev pub IsReadFrom : TableState → ℤ → ℤ → Type 0
-IsReadFrom state now cut = (kept : ℤ) × IsRead state kept × (cut ≡ cut_before now kept)
+abbrev pub IsReadWithCut : TableState → ℤ → ℤ → Type 0
+IsReadWithCut state now cut = (kept : ℤ) × IsRead state kept × (cut ≡ cut_before now kept)
 
 -- ---- the text
 
@@ -76,7 +76,7 @@ pub record IsTextOf (events : List Told) (horizon : ℤ) (limits : Limits) (at :
   pub folds : IsFoldOf events limits (segment_by events version choice) state
   pub agrees : Agree state (table_at events version) horizon
   pub exact : IsOfCommits (segment_by events version choice) → state ≡ table_at events version
-  pub read : IsReadFrom state now cut
+  pub read : IsReadWithCut state now cut
   pub is_text : text ≡ shown version state cut
 
 abbrev pub HasText : List Told → ℤ → Limits → Option ℕ → Choice → ℤ → List ℕ → Type 0

@@ -1,7 +1,7 @@
 //! The actions of the program's input, one a line.
 ghost use Rattle.std.specs.Prelude.{◌≡◌, ◌≤◌, ◌<◌, ◌^◌, ◌+◌, ◌↔◌, [], List, ℕ, Err, IfErr, IfSome, OnOk};
 ghost use Rattle.dk_model.specs.CommitText.{reading_of};
-ghost use Rattle.dk_engine.specs.Answers.{Gives};
+ghost use Rattle.dk_engine.specs.Answers.{AnswersMeant};
 ghost use Rattle.dk_cli.specs.Actions.{actions_of, one_past, read_actions, InputEnds, InputRefuses, TakesActions};
 ghost use Rattle.dk_cli.specs.Effects.{ReadsSource};
 ghost use Rattle.dk_cli.specs.Reading.{StopsReading};
@@ -30,7 +30,7 @@ fn one_past(limits: Limits, which: Which) -> u64
 
 /// The actions of these bytes.
 fn read_bytes(alloc: Global, json: &mut dyn JsonHandler, bytes: &[u8]) -> Result<Commit, Refusal>
-    ensures means { Gives (λ commit. commit) result (read_actions (reading_of bytes.now)) }
+    ensures means { AnswersMeant (λ commit. commit) result (read_actions (reading_of bytes.now)) }
     ensures refusals { IfErr result InputRefuses }
 {
     match json.read_commit(alloc, bytes) {

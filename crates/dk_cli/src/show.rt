@@ -1,7 +1,7 @@
 //! The command `show`: a version of the table, as text.
 ghost use Rattle.std.specs.Prelude.{◌≡◌, IfErr, IfOk};
 ghost use Rattle.dk_store.specs.Seen.{IfTold};
-ghost use Rattle.dk_engine.specs.Answers.{GivesBy};
+ghost use Rattle.dk_engine.specs.Answers.{AnswersBy};
 ghost use Rattle.dk_engine.specs.Effects.{OnlyReads};
 ghost use Rattle.dk_engine.specs.Held.{held};
 ghost use Rattle.dk_snapshot.specs.Opens.{Opens};
@@ -32,7 +32,7 @@ fn open(
     ensures reads { OnlyReads (seen (held engine.old.store)) (seen (held engine.new.store)) result }
     ensures limits { engine.new.limits ≡ engine.old.limits }
     ensures refusals { IfErr result (OpenRefuses at) }
-    ensures means { IfTold (seen (held engine.old.store)) (λ events. GivesBy (λ snapshot. snapshot) result (Opens events engine.old.limits at choice.now now)) }
+    ensures means { IfTold (seen (held engine.old.store)) (λ events. AnswersBy (λ snapshot. snapshot) result (Opens events engine.old.limits at choice.now now)) }
 {
     let limits = engine.limits;
     open_at(
@@ -57,7 +57,7 @@ pub(crate) fn show_text(
     ensures reads { OnlyReads (seen (held engine.old.store)) (seen (held engine.new.store)) result }
     ensures limits { engine.new.limits ≡ engine.old.limits }
     ensures refusals { IfErr result (OpenRefuses at) }
-    ensures means { IfTold (seen (held engine.old.store)) (λ events. GivesBy (λ text. text.items) result (ShowsAs events engine.old.limits at choice.now now)) }
+    ensures means { IfTold (seen (held engine.old.store)) (λ events. AnswersBy (λ text. text.items) result (ShowsAs events engine.old.limits at choice.now now)) }
 {
     match open(alloc, engine, at, choice, now) {
         Err(refusal) => Err(refusal),

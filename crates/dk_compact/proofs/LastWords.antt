@@ -18,7 +18,7 @@ use Rattle.dk_model.specs.Changes.{is_same_text, last_some}
 use Rattle.dk_lawful.proofs.Words.{entries_are_of, none_after, last_of_entries}
 use Rattle.dk_compact.specs.Settled.{settled}
 use Rattle.dk_compact.specs.Keyed.{Keyed, put_text, in_order, actions_in}
-use Rattle.dk_compact.specs.Summary.{under, newest_each}
+use Rattle.dk_compact.specs.Summary.{under_key, newest_each}
 
 -- the answer of the first action that has one
 abbrev pub first_word : {W : Type 0} → (Action → Option W) → List Action → Option W
@@ -67,9 +67,9 @@ module _ (key : Action → Option (List ℕ)) where
   under_has a None rest is have = have
   under_has a (Some k) rest is have = (is, have)
 
-  filtered_have : (actions : List Action) → HaveKeys (filter_map (under key) actions)
+  filtered_have : (actions : List Action) → HaveKeys (filter_map (under_key key) actions)
   filtered_have [] = tt
-  filtered_have (a ∷ rest) = under_has a (key a) (filter_map (under key) rest) refl (filtered_have rest)
+  filtered_have (a ∷ rest) = under_has a (key a) (filter_map (under_key key) rest) refl (filtered_have rest)
 
   put_has : (k : List ℕ) (a : Action) (es : Keyed) → key a ≡ Some k → HaveKeys es → HaveKeys (put_text es k a)
   put_has k a [] is have = (is, tt)
@@ -85,7 +85,7 @@ module _ (key : Action → Option (List ℕ)) where
   ordered_have (e ∷ es) have = put_has e.0 e.1 (in_order es) have.0 (ordered_have es have.1)
 
   pub each_has : (newest : List Action) → HaveKeys (newest_each key newest)
-  each_has newest = ordered_have (filter_map (under key) newest) (filtered_have newest)
+  each_has newest = ordered_have (filter_map (under_key key) newest) (filtered_have newest)
 
 -- ---- the word on one key
 
@@ -111,10 +111,10 @@ module _ {W : Type 0} (word : Action → Option W) (key : Action → Option (Lis
       by true is = refl
       by false is = is
 
-  found_first : SpeaksByKey → (actions : List Action) → first_word word actions ≡ option_map value (map_of.find (slice_cmp nat_cmp) path (filter_map (under key) actions))
+  found_first : SpeaksByKey → (actions : List Action) → first_word word actions ≡ option_map value (map_of.find (slice_cmp nat_cmp) path (filter_map (under_key key) actions))
   found_first speaks [] = refl
   found_first speaks (a ∷ rest) =
-      ap (λ o. option_or o (first_word word rest)) (speaks a) ∙ found_step a (key a) (filter_map (under key) rest) (first_word word rest) (found_first speaks rest)
+      ap (λ o. option_or o (first_word word rest)) (speaks a) ∙ found_step a (key a) (filter_map (under_key key) rest) (first_word word rest) (found_first speaks rest)
 
   settled_each : (es : Keyed) → map settled (actions_in es) ≡ map (λ (e : List ℕ × Action). settled e.1) es
   settled_each [] = refl
@@ -131,7 +131,7 @@ module _ {W : Type 0} (word : Action → Option W) (key : Action → Option (Lis
   -- the word of those on each key is the first word of all
   pub each_speaks : SpeaksByKey → KeepsWords → (newest : List Action) → last_some word (map settled (actions_in (newest_each key newest))) ≡ first_word word newest
   each_speaks speaks keeps newest =
-      let keyed : Keyed = filter_map (under key) newest in
+      let keyed : Keyed = filter_map (under_key key) newest in
       let m : ByText Action = from_entries keyed in
       let same : entries m ≡ in_order keyed = map_in_order keyed in
       let have : HaveKeys key (entries m) = subst (HaveKeys key) (sym same) (each_has key newest) in

@@ -13,7 +13,7 @@ use Rattle.dk_model.proofs.Changes.{last_decides}
 use Rattle.dk_lawful.proofs.Words.{none_after}
 use Rattle.dk_compact.specs.Settled.{settled}
 use Rattle.dk_compact.specs.Keyed.{Keyed, actions_in}
-use Rattle.dk_compact.specs.Summary.{is_protocol, is_metadata, application_key, domain_key, path_key, all_actions, newest_each, summary_of, SummariesSum}
+use Rattle.dk_compact.specs.Summary.{sets_protocol, sets_metadata, application_key, domain_key, path_key, all_actions, newest_each, summary_of, SummariesSum}
 use Rattle.dk_compact.proofs.LastWords.{first_word, first_of_reverse, if_same, each_speaks, each_has}
 
 -- ---- kinds of actions
@@ -27,11 +27,11 @@ kind (action.Add f) = 4
 kind (action.Remove r) = 4
 kind a = 5
 
-of_protocol : (a : Action) → is_protocol a ≡ true → kind a ≡ 0
+of_protocol : (a : Action) → sets_protocol a ≡ true → kind a ≡ 0
 of_protocol (action.Protocol p) is = refl
 of_protocol a is = absurd (let no : false ≡ true = is in cc)
 
-of_metadata : (a : Action) → is_metadata a ≡ true → kind a ≡ 1
+of_metadata : (a : Action) → sets_metadata a ≡ true → kind a ≡ 1
 of_metadata (action.Metadata m) is = refl
 of_metadata a is = absurd (let no : false ≡ true = is in cc)
 
@@ -152,11 +152,11 @@ keeps_change q (action.Add f) = refl
 keeps_change q (action.Remove r) = refl
 keeps_change q a = refl
 
-tests_protocol : (a : Action) → is_protocol a ≡ is_some (protocol_in a)
+tests_protocol : (a : Action) → sets_protocol a ≡ is_some (protocol_in a)
 tests_protocol (action.Protocol p) = refl
 tests_protocol a = refl
 
-tests_metadata : (a : Action) → is_metadata a ≡ is_some (metadata_in a)
+tests_metadata : (a : Action) → sets_metadata a ≡ is_some (metadata_in a)
 tests_metadata (action.Metadata m) = refl
 tests_metadata a = refl
 
@@ -164,10 +164,10 @@ tests_metadata a = refl
 
 module _ (newest : List Action) where
   abbrev protocols : List Action
-  protocols = option_to_list (find is_protocol newest)
+  protocols = option_to_list (find sets_protocol newest)
 
   abbrev metadatas : List Action
-  metadatas = option_to_list (find is_metadata newest)
+  metadatas = option_to_list (find sets_metadata newest)
 
   abbrev applications : List Action
   applications = actions_in (newest_each application_key newest)
@@ -179,10 +179,10 @@ module _ (newest : List Action) where
   paths = actions_in (newest_each path_key newest)
 
   are_protocols : AreOfKind 0 protocols
-  are_protocols = found_of is_protocol 0 of_protocol newest
+  are_protocols = found_of sets_protocol 0 of_protocol newest
 
   are_metadatas : AreOfKind 1 metadatas
-  are_metadatas = found_of is_metadata 1 of_metadata newest
+  are_metadatas = found_of sets_metadata 1 of_metadata newest
 
   are_applications : AreOfKind 2 applications
   are_applications = keyed_of application_key 2 of_application (newest_each application_key newest) (each_has application_key newest)
@@ -225,7 +225,7 @@ module _ (newest : List Action) where
 
   protocol_said : last_some protocol_in (map settled sum) ≡ first_word protocol_in newest
   protocol_said =
-      five protocol_in (first_word protocol_in newest) None None None None (heads_speak protocol_in is_protocol keeps_protocol tests_protocol newest)
+      five protocol_in (first_word protocol_in newest) None None None None (heads_speak protocol_in sets_protocol keeps_protocol tests_protocol newest)
       (quiet protocol_in 0 1 protocol_of (λ e. omega (arith, e)) metadatas are_metadatas)
       (quiet protocol_in 0 2 protocol_of (λ e. omega (arith, e)) applications are_applications)
       (quiet protocol_in 0 3 protocol_of (λ e. omega (arith, e)) domains are_domains)
@@ -235,7 +235,7 @@ module _ (newest : List Action) where
   metadata_said =
       five metadata_in None (first_word metadata_in newest) None None None
       (quiet metadata_in 1 0 metadata_of (λ e. omega (arith, e)) protocols are_protocols)
-      (heads_speak metadata_in is_metadata keeps_metadata tests_metadata newest)
+      (heads_speak metadata_in sets_metadata keeps_metadata tests_metadata newest)
       (quiet metadata_in 1 2 metadata_of (λ e. omega (arith, e)) applications are_applications)
       (quiet metadata_in 1 3 metadata_of (λ e. omega (arith, e)) domains are_domains)
       (quiet metadata_in 1 4 metadata_of (λ e. omega (arith, e)) paths are_paths)

@@ -5,20 +5,20 @@ use Rattle.std.proofs.lemmas.List.{reverse-append}
 use Rattle.dk_model.specs.declared.action.Action.{Action}
 use Rattle.dk_model.specs.declared.action.Action.TheVariants as action
 use Rattle.dk_compact.specs.declared.newest.Newest.{Newest}
-use Rattle.dk_compact.specs.Summary.{is_protocol, is_metadata, application_key, domain_key, path_key, all_actions, newest_each}
-use Rattle.dk_compact.specs.Taken.{taken, taken_all, taken_each, taken_commits}
+use Rattle.dk_compact.specs.Summary.{sets_protocol, sets_metadata, application_key, domain_key, path_key, all_actions, newest_each}
+use Rattle.dk_compact.specs.Taken.{newest_with, taken_all, taken_each, taken_commits}
 
 -- the newest on each key, of actions that stand newest first
 abbrev newest_of : List Action → Newest
 newest_of back = record {
-  protocol = find is_protocol back;
-  metadata = find is_metadata back;
+  protocol = find sets_protocol back;
+  metadata = find sets_metadata back;
   applications = newest_each application_key back;
   domains = newest_each domain_key back;
   paths = newest_each path_key back;
 }
 
-one_taken : (back : List Action) (a : Action) → taken (newest_of back) a ≡ newest_of (a ∷ back)
+one_taken : (back : List Action) (a : Action) → newest_with (newest_of back) a ≡ newest_of (a ∷ back)
 one_taken back (action.Protocol p) = refl
 one_taken back (action.Metadata m) = refl
 one_taken back (action.Add f) = refl

@@ -14,13 +14,13 @@ domain_removed = action.Domain (record { domain = codes "d"; configuration = [];
 abbrev pub RemovedDomainStays : Type 0
 RemovedDomainStays = summary_of ((domain_set ∷ []) ∷ (domain_removed ∷ []) ∷ []) ≡ domain_removed ∷ []
 
-abbrev pub recorded : ℕ → Action
+abbrev recorded : ℕ → Action
 recorded version = action.Txn (record { app_id = codes "app"; version = pos version; last_updated = None })
 
-abbrev pub removal : List ℕ → ℕ → Action
+abbrev removal : List ℕ → ℕ → Action
 removal path time = action.Remove (record { path = path; deletion_timestamp = pos time; data_change = false })
 
-abbrev pub added : List ℕ → Action
+abbrev added : List ℕ → Action
 added path = action.Add (record {
   path = path;
   partition_values = [];

@@ -10,13 +10,13 @@ use Rattle.dk_compact.specs.Keyed.{Keyed, in_order, actions_in}
 
 -- ---- the keys
 
-abbrev pub is_protocol : Action → Bool
-is_protocol (action.Protocol p) = true
-is_protocol a = false
+abbrev pub sets_protocol : Action → Bool
+sets_protocol (action.Protocol p) = true
+sets_protocol a = false
 
-abbrev pub is_metadata : Action → Bool
-is_metadata (action.Metadata m) = true
-is_metadata a = false
+abbrev pub sets_metadata : Action → Bool
+sets_metadata (action.Metadata m) = true
+sets_metadata a = false
 
 abbrev pub application_key : Action → Option (List ℕ)
 application_key (action.Txn t) = Some t.app_id
@@ -38,17 +38,17 @@ all_actions [] = []
 all_actions (c ∷ cs) = c ++ all_actions cs
 
 -- the action under its key
-abbrev pub under : (Action → Option (List ℕ)) → Action → Option (List ℕ × Action)
-under key a = option_map (λ k. (k, a)) (key a)
+abbrev pub under_key : (Action → Option (List ℕ)) → Action → Option (List ℕ × Action)
+under_key key a = option_map (λ k. (k, a)) (key a)
 
 -- of actions that stand newest first, the newest on each key, in the order of the keys
 abbrev pub newest_each : (Action → Option (List ℕ)) → List Action → Keyed
-newest_each key newest_first = in_order (filter_map (under key) newest_first)
+newest_each key newest_first = in_order (filter_map (under_key key) newest_first)
 
 -- protocol, metadata, applications, domains, paths
 abbrev pub newest_on_keys : List Action → List Action
 newest_on_keys newest_first =
-    option_to_list (find is_protocol newest_first) ++ (option_to_list (find is_metadata newest_first)
+    option_to_list (find sets_protocol newest_first) ++ (option_to_list (find sets_metadata newest_first)
     ++ (actions_in (newest_each application_key newest_first) ++ (actions_in (newest_each domain_key newest_first)
     ++ actions_in (newest_each path_key newest_first))))
 

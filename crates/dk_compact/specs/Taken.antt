@@ -9,21 +9,21 @@ use Rattle.dk_compact.specs.declared.newest.Newest.{Newest}
 abbrev pub empty_newest : Newest
 empty_newest = record { protocol = None; metadata = None; applications = []; domains = []; paths = [] }
 
-abbrev pub taken : Newest → Action → Newest
-taken n (action.Protocol p) = record n { protocol = Some (action.Protocol p) }
-taken n (action.Metadata m) = record n { metadata = Some (action.Metadata m) }
-taken n (action.Add f) = record n { paths = put_text n.paths f.path (action.Add f) }
-taken n (action.Remove r) = record n { paths = put_text n.paths r.path (action.Remove r) }
-taken n (action.Txn t) = record n { applications = put_text n.applications t.app_id (action.Txn t) }
-taken n (action.Domain d) = record n { domains = put_text n.domains d.domain (action.Domain d) }
-taken n (action.Info i) = n
-taken n action.Cdc = n
-taken n (action.CheckpointMeta m) = n
-taken n (action.Sidecar s) = n
+abbrev pub newest_with : Newest → Action → Newest
+newest_with n (action.Protocol p) = record n { protocol = Some (action.Protocol p) }
+newest_with n (action.Metadata m) = record n { metadata = Some (action.Metadata m) }
+newest_with n (action.Add f) = record n { paths = put_text n.paths f.path (action.Add f) }
+newest_with n (action.Remove r) = record n { paths = put_text n.paths r.path (action.Remove r) }
+newest_with n (action.Txn t) = record n { applications = put_text n.applications t.app_id (action.Txn t) }
+newest_with n (action.Domain d) = record n { domains = put_text n.domains d.domain (action.Domain d) }
+newest_with n (action.Info i) = n
+newest_with n action.Cdc = n
+newest_with n (action.CheckpointMeta m) = n
+newest_with n (action.Sidecar s) = n
 
 abbrev pub taken_all : Newest → List Action → Newest
 taken_all n [] = n
-taken_all n (a ∷ rest) = taken_all (taken n a) rest
+taken_all n (a ∷ rest) = taken_all (newest_with n a) rest
 
 abbrev pub taken_each : Newest → List (List Action) → Newest
 taken_each n [] = n

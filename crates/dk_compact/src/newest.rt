@@ -3,7 +3,7 @@
 ghost use Rattle.std.specs.Prelude.{◌≡◌, ◌++◌, OnOk, IfOk, None, Some, map, option_copied};
 ghost use Rattle.std.specs.Option.{option_to_list};
 ghost use Rattle.dk_compact.specs.Settled.{settled};
-ghost use Rattle.dk_compact.specs.Taken.{empty_newest, taken, taken_all, in_order_of_kinds};
+ghost use Rattle.dk_compact.specs.Taken.{empty_newest, newest_with, taken_all, in_order_of_kinds};
 
 use crate::latest::Latest;
 use crate::settling::settle;
@@ -78,7 +78,7 @@ impl<'a> Newest<'a> {
 
     /// Takes one action more as the last one on its key.
     pub fn take(&mut self, action: &'a Action) -> Result<(), AllocError>
-        ensures { OnOk result (self.new ≡ taken self.old action.now) }
+        ensures { OnOk result (self.new ≡ newest_with self.old action.now) }
     {
         match action {
             Action::Protocol(_) => {

@@ -24,14 +24,14 @@ is_metadata (action.Metadata m) = true
 is_metadata _ = false
 
 -- the names that two commits can share: of the application that an action speaks of, of its domain, or of the file that it removes
-abbrev pub name_in : Topic → Action → Option (List ℕ)
-name_in topic.Application (action.Txn txn) = Some txn.app_id
-name_in topic.Domain (action.Domain domain) = Some domain.domain
-name_in topic.Removed (action.Remove file) = Some file.path
-name_in _ _ = None
+abbrev pub name_on_topic : Topic → Action → Option (List ℕ)
+name_on_topic topic.Application (action.Txn txn) = Some txn.app_id
+name_on_topic topic.Domain (action.Domain domain) = Some domain.domain
+name_on_topic topic.Removed (action.Remove file) = Some file.path
+name_on_topic _ _ = None
 
 abbrev pub names_in : Topic → List Action → List (List ℕ)
-names_in about actions = filter_map (name_in about) actions
+names_in about actions = filter_map (name_on_topic about) actions
 
 -- ---- what was read
 
@@ -55,14 +55,14 @@ abbrev pub share_one : Topic → List Action → List Action → Bool
 share_one about own winner = has_one about (names_in about own) winner
 
 -- the winner is in the way in this way of what was read and of the own commit
-abbrev pub is_in_the_way : Reads → List Action → List Action → Kind → Bool
-is_in_the_way read own winner kind.ProtocolChanged = list_any is_protocol winner || list_any is_protocol own
-is_in_the_way read own winner kind.MetadataChanged = list_any is_metadata winner
-is_in_the_way read own winner kind.ConcurrentTransaction = share_one topic.Application own winner
-is_in_the_way read own winner kind.DomainChanged = share_one topic.Domain own winner
-is_in_the_way read own winner kind.ConcurrentAppend = is_table read && list_any adds_rows winner
-is_in_the_way read own winner kind.ConcurrentDeleteRead = (is_table read && list_any removes_rows winner) || has_one topic.Removed (files_read read) winner
-is_in_the_way read own winner kind.ConcurrentDeleteDelete = share_one topic.Removed own winner
+abbrev pub winner_is_in_the_way : Reads → List Action → List Action → Kind → Bool
+winner_is_in_the_way read own winner kind.ProtocolChanged = list_any is_protocol winner || list_any is_protocol own
+winner_is_in_the_way read own winner kind.MetadataChanged = list_any is_metadata winner
+winner_is_in_the_way read own winner kind.ConcurrentTransaction = share_one topic.Application own winner
+winner_is_in_the_way read own winner kind.DomainChanged = share_one topic.Domain own winner
+winner_is_in_the_way read own winner kind.ConcurrentAppend = is_table read && list_any adds_rows winner
+winner_is_in_the_way read own winner kind.ConcurrentDeleteRead = (is_table read && list_any removes_rows winner) || has_one topic.Removed (files_read read) winner
+winner_is_in_the_way read own winner kind.ConcurrentDeleteDelete = share_one topic.Removed own winner
 
 -- the kinds, in the order in which they are told
 unfoldable pub all_kinds : List Kind
@@ -70,7 +70,7 @@ all_kinds =
     kind.ProtocolChanged ∷ kind.MetadataChanged ∷ kind.ConcurrentTransaction ∷ kind.DomainChanged ∷ kind.ConcurrentAppend ∷ kind.ConcurrentDeleteRead ∷ kind.ConcurrentDeleteDelete ∷ []
 
 abbrev pub kind_of : Reads → List Action → List Action → Option Kind
-kind_of read own winner = find (is_in_the_way read own winner) all_kinds
+kind_of read own winner = find (winner_is_in_the_way read own winner) all_kinds
 
 -- the first that is in the way, or else what comes later
 abbrev pub first_in_the_way : ℕ → Option Kind → Option (ℕ × Kind) → Option (ℕ × Kind)

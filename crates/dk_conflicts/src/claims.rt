@@ -3,7 +3,7 @@
 ghost use Rattle.std.specs.Prelude.{◌≡◌, List, IfOk};
 ghost use Rattle.std.specs.List.{list_any};
 ghost use Rattle.dk_conflicts.specs.Claims.{AreClaims};
-ghost use Rattle.dk_conflicts.specs.Conflicts.{all_kinds, conflict_of, files_read, is_in_the_way, is_metadata, is_protocol, is_table, kind_of, names_in};
+ghost use Rattle.dk_conflicts.specs.Conflicts.{all_kinds, conflict_of, files_read, winner_is_in_the_way, is_metadata, is_protocol, is_table, kind_of, names_in};
 ghost use Rattle.dk_model.specs.NameSets.{HasNames, has_name};
 ghost use Rattle.dk_model.specs.Rows.{adds_rows, removes_rows};
 ghost use Rattle.dk_model.specs.declared.action.Action.{Action};
@@ -155,7 +155,7 @@ impl<'a> Claims<'a> {
 
     /// Whether a commit that came in between is in the way in this way.
     fn is_in_the_way(&self, kind: Kind, winner: &[Action]) -> bool
-        ensures { (reads : Reads) (own : List Action) → AreClaims self.now reads own → result ≡ is_in_the_way reads own winner.now kind }
+        ensures { (reads : Reads) (own : List Action) → AreClaims self.now reads own → result ≡ winner_is_in_the_way reads own winner.now kind }
     {
         match kind {
             Kind::ProtocolChanged => has_protocol(winner) || self.has_protocol,
@@ -170,7 +170,7 @@ impl<'a> Claims<'a> {
 
     /// Whether a commit removes what was read.
     fn is_read_deleted(&self, winner: &[Action]) -> bool
-        ensures { (reads : Reads) (own : List Action) → AreClaims self.now reads own → result ≡ is_in_the_way reads own winner.now Kind.ConcurrentDeleteRead }
+        ensures { (reads : Reads) (own : List Action) → AreClaims self.now reads own → result ≡ winner_is_in_the_way reads own winner.now Kind.ConcurrentDeleteRead }
     {
         if self.reads_table && remove_rows(winner) {
             true

@@ -1,7 +1,7 @@
 //! The names that two commits can share.
 
 ghost use Rattle.std.specs.Prelude.{◌≡◌, option_map};
-ghost use Rattle.dk_conflicts.specs.Conflicts.{name_in};
+ghost use Rattle.dk_conflicts.specs.Conflicts.{name_on_topic};
 
 use dk_model::{Action, Text};
 
@@ -18,7 +18,7 @@ pub(crate) enum Topic {
 
 /// The name of this kind that an action has, if it has one.
 pub(crate) fn name_of(topic: Topic, action: &Action) -> Option<&Text>
-    ensures { option_map (λ name. name.now) result ≡ name_in topic action.now }
+    ensures { option_map (λ name. name.now) result ≡ name_on_topic topic action.now }
 {
     match (topic, action) {
         (Topic::Application, Action::Txn(txn)) => Some(&txn.app_id),

@@ -18,14 +18,14 @@ Refuses (refusals.Taken path) meant = ⊥
 Refuses refusal meant = meant ≡ Err refusal
 
 -- what a call answered, seen by `view`, is what is meant
-abbrev pub Gives : {X Y : Type 0} → (X → Y) → Result X Refusal → Result Y Refusal → Type 0
-Gives view (Ok x) meant = meant ≡ Ok (view x)
-Gives view (Err refusal) meant = Refuses refusal meant
+abbrev pub AnswersMeant : {X Y : Type 0} → (X → Y) → Result X Refusal → Result Y Refusal → Type 0
+AnswersMeant view (Ok x) meant = meant ≡ Ok (view x)
+AnswersMeant view (Err refusal) meant = Refuses refusal meant
 
 -- the same where a meaning is a relation, which says of each value and each refusal whether it is meant
-abbrev pub GivesBy : {X Y : Type 0} → (X → Y) → Result X Refusal → (Result Y Refusal → Type 0) → Type 0
-GivesBy view (Ok x) means = means (Ok (view x))
-GivesBy view (Err refusals.Store) means = Unit {0}
-GivesBy view (Err refusals.OutOfMemory) means = Unit {0}
-GivesBy view (Err (refusals.Taken path)) means = ⊥
-GivesBy view (Err refusal) means = means (Err refusal)
+abbrev pub AnswersBy : {X Y : Type 0} → (X → Y) → Result X Refusal → (Result Y Refusal → Type 0) → Type 0
+AnswersBy view (Ok x) means = means (Ok (view x))
+AnswersBy view (Err refusals.Store) means = Unit {0}
+AnswersBy view (Err refusals.OutOfMemory) means = Unit {0}
+AnswersBy view (Err (refusals.Taken path)) means = ⊥
+AnswersBy view (Err refusal) means = means (Err refusal)

@@ -9,7 +9,7 @@ use Rattle.std.proofs.lemmas.Slice.Eq.{bytes_eq-Decides}
 use Rattle.dk_model.specs.declared.action.Protocol.{Protocol}
 use Rattle.dk_model.specs.NameSets.{is_one_of}
 use Rattle.dk_features.specs.Names.{append_only, invariants, check_constraints, change_data_feed, generated_columns, column_mapping, identity_columns}
-use Rattle.dk_features.specs.InForce.{implied, listed, is_implied_found, is_implied_name, is_mapped, is_in_force}
+use Rattle.dk_features.specs.InForce.{implied, listed_features, is_implied_found, is_implied_name, is_mapped, is_in_force}
 use Rattle.dk_features.specs.Forms.{nameable, stays_in_force, keeps_features}
 
 equal : (xs ys : List ℕ) → bytes_eq xs ys ≡ true → xs ≡ ys
@@ -60,19 +60,19 @@ in_either : (xs ys : List (List ℕ)) (name : List ℕ) → (is_one_of xs name |
 in_either xs ys name is = list_any-append (bytes_eq name) xs ys ∙ is
 
 in_force_named : (p : Protocol) (name : List ℕ) → is_in_force p name ≡ true → is_one_of (nameable p) name ≡ true
-in_force_named p name is = in_either (map (λ feature. feature.0) implied) (listed p.writer_features) name (by (nat_lt p.min_writer 7) is)
+in_force_named p name is = in_either (map (λ feature. feature.0) implied) (listed_features p.writer_features) name (by (nat_lt p.min_writer 7) is)
   where
-    either : (writers mapped : Bool) → is_one_of (listed p.writer_features) name ≡ writers → is_mapped p name ≡ mapped → (writers || mapped) ≡ true
-        → (is_one_of (map (λ feature. feature.0) implied) name || is_one_of (listed p.writer_features) name) ≡ true
-    either true mapped in_list in_versions one = any_second (is_one_of (map (λ feature. feature.0) implied) name) (is_one_of (listed p.writer_features) name) in_list
+    either : (writers mapped : Bool) → is_one_of (listed_features p.writer_features) name ≡ writers → is_mapped p name ≡ mapped → (writers || mapped) ≡ true
+        → (is_one_of (map (λ feature. feature.0) implied) name || is_one_of (listed_features p.writer_features) name) ≡ true
+    either true mapped in_list in_versions one = any_second (is_one_of (map (λ feature. feature.0) implied) name) (is_one_of (listed_features p.writer_features) name) in_list
     either false true in_list in_versions one =
-        any_first (is_one_of (map (λ feature. feature.0) implied) name) (is_one_of (listed p.writer_features) name) (mapped_named p name in_versions)
+        any_first (is_one_of (map (λ feature. feature.0) implied) name) (is_one_of (listed_features p.writer_features) name) (mapped_named p name in_versions)
     either false false in_list in_versions one = absurd (true≢false (sym one))
 
-    by : (low : Bool) → (if low then is_implied_name p name else (is_one_of (listed p.writer_features) name || is_mapped p name)) ≡ true
-        → (is_one_of (map (λ feature. feature.0) implied) name || is_one_of (listed p.writer_features) name) ≡ true
-    by true is = any_first (is_one_of (map (λ feature. feature.0) implied) name) (is_one_of (listed p.writer_features) name) (found_named p name implied is)
-    by false is = either (is_one_of (listed p.writer_features) name) (is_mapped p name) refl refl is
+    by : (low : Bool) → (if low then is_implied_name p name else (is_one_of (listed_features p.writer_features) name || is_mapped p name)) ≡ true
+        → (is_one_of (map (λ feature. feature.0) implied) name || is_one_of (listed_features p.writer_features) name) ≡ true
+    by true is = any_first (is_one_of (map (λ feature. feature.0) implied) name) (is_one_of (listed_features p.writer_features) name) (found_named p name implied is)
+    by false is = either (is_one_of (listed_features p.writer_features) name) (is_mapped p name) refl refl is
 
 -- ---- what stays
 
@@ -87,9 +87,9 @@ stays before after name keeps now =
 
 -- by the features that versions stand for, and those of the list
 pub keeps_is : (before after b a : Protocol) (implied_stay listed_stay : Bool) → b ≡ before → a ≡ after → implied_stay ≡ list_all (stays_in_force b a) (map (λ feature. feature.0) implied)
-    → listed_stay ≡ list_all (stays_in_force b a) (listed before.writer_features) → (implied_stay && listed_stay) ≡ keeps_features before after
+    → listed_stay ≡ list_all (stays_in_force b a) (listed_features before.writer_features) → (implied_stay && listed_stay) ≡ keeps_features before after
 unfolding keeps_features
 keeps_is before after b a implied_stay listed_stay same_before same_after of_versions of_list =
     ap₂ (λ x y. x && y) of_versions of_list
-    ∙ ap₂ (λ (p q : Protocol). list_all (stays_in_force p q) (map (λ feature. feature.0) implied) && list_all (stays_in_force p q) (listed before.writer_features)) same_before same_after
-    ∙ sym (list_all-append (stays_in_force before after) (map (λ feature. feature.0) implied) (listed before.writer_features))
+    ∙ ap₂ (λ (p q : Protocol). list_all (stays_in_force p q) (map (λ feature. feature.0) implied) && list_all (stays_in_force p q) (listed_features before.writer_features)) same_before same_after
+    ∙ sym (list_all-append (stays_in_force before after) (map (λ feature. feature.0) implied) (listed_features before.writer_features))

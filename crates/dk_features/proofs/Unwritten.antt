@@ -13,7 +13,7 @@ use Rattle.dk_features.specs.declared.fault.FeatureFault.TheVariants as faults
 use Rattle.dk_features.specs.declared.fault.FeatureList.TheVariants as lists
 use Rattle.dk_model.specs.NameSets.{is_one_of}
 use Rattle.dk_features.specs.Names.{catalog_managed}
-use Rattle.dk_features.specs.InForce.{is_implied_name, is_in_force, is_mapped, listed}
+use Rattle.dk_features.specs.InForce.{is_implied_name, is_in_force, is_mapped, listed_features}
 use Rattle.dk_features.specs.Invariants.{uses_invariants}
 use Rattle.dk_features.specs.Support.{fault_at, is_unwritten, unread, unwritten, unwritten_implied, unwritten_listed, unwritten_version}
 
@@ -47,15 +47,15 @@ listed_none uses names none = by (position_from (is_unwritten uses) 0 names) non
     by (Some place) none = absurd (let no : ◌≡◌ {A = Option FeatureFault} (Some (fault_at lists.Writer (get_or names place []) place)) None = none in cc)
 
 -- from version 7 on the list for writers is tested
-seven : (uses : Bool) (p : Protocol) → nat_lt p.min_writer 7 ≡ false → unwritten_version uses p ≡ None → unwritten_listed uses (listed p.writer_features) ≡ None
+seven : (uses : Bool) (p : Protocol) → nat_lt p.min_writer 7 ≡ false → unwritten_version uses p ≡ None → unwritten_listed uses (listed_features p.writer_features) ≡ None
 seven uses p high none = by (p.min_writer == 1) (nat_le 2 p.min_writer && nat_le p.min_writer 6) (p.min_writer == 7) refl refl none
   where
     least : 7 ≤ p.min_writer
     least = ltb-false p.min_writer 7 high
 
     by : (one low at : Bool) → (p.min_writer == 1) ≡ one → (nat_le 2 p.min_writer && nat_le p.min_writer 6) ≡ low
-        → (if one then None else if low then unwritten_implied uses p else if at then unwritten_listed uses (listed p.writer_features) else Some (faults.WriterVersion p.min_writer)) ≡ None
-        → unwritten_listed uses (listed p.writer_features) ≡ None
+        → (if one then None else if low then unwritten_implied uses p else if at then unwritten_listed uses (listed_features p.writer_features) else Some (faults.WriterVersion p.min_writer)) ≡ None
+        → unwritten_listed uses (listed_features p.writer_features) ≡ None
     by true low at is between none = let same : p.min_writer ≡ 1 = eqb-true p.min_writer 1 is in let from = least in absurd (omega arith)
     by false true at is between none =
         let most : p.min_writer ≤ 6 = leb-true p.min_writer 6 ((and_parts (nat_le 2 p.min_writer) (nat_le p.min_writer 6) between).1) in let from = least in absurd (omega arith)
@@ -72,20 +72,20 @@ unmanaged p m none = by (nat_lt p.min_writer 7) refl
     version : unwritten_version (uses_invariants m.schema_string) p ≡ None
     version = none_second (unread p) (unwritten_version (uses_invariants m.schema_string) p) none
 
-    in_list : (has : Bool) → nat_lt p.min_writer 7 ≡ false → is_one_of (listed p.writer_features) catalog_managed ≡ has → (has || is_mapped p catalog_managed) ≡ false
+    in_list : (has : Bool) → nat_lt p.min_writer 7 ≡ false → is_one_of (listed_features p.writer_features) catalog_managed ≡ has → (has || is_mapped p catalog_managed) ≡ false
     in_list true high one =
-        absurd (place_of_unwritten (is_unwritten (uses_invariants m.schema_string)) catalog_managed 0 (listed p.writer_features) (managed_is_unwritten (uses_invariants m.schema_string)) one
-        (listed_none (uses_invariants m.schema_string) (listed p.writer_features) (seven (uses_invariants m.schema_string) p high version)))
+        absurd (place_of_unwritten (is_unwritten (uses_invariants m.schema_string)) catalog_managed 0 (listed_features p.writer_features) (managed_is_unwritten (uses_invariants m.schema_string)) one
+        (listed_none (uses_invariants m.schema_string) (listed_features p.writer_features) (seven (uses_invariants m.schema_string) p high version)))
     in_list false high one = and_false (p.min_reader == 2)
 
-    by : (low : Bool) → nat_lt p.min_writer 7 ≡ low → (if low then is_implied_name p catalog_managed else (is_one_of (listed p.writer_features) catalog_managed || is_mapped p catalog_managed)) ≡ false
+    by : (low : Bool) → nat_lt p.min_writer 7 ≡ low → (if low then is_implied_name p catalog_managed else (is_one_of (listed_features p.writer_features) catalog_managed || is_mapped p catalog_managed)) ≡ false
     by true is = refl
-    by false is = in_list (is_one_of (listed p.writer_features) catalog_managed) is refl
+    by false is = in_list (is_one_of (listed_features p.writer_features) catalog_managed) is refl
 
 -- nor is one of a version below 7 managed
 pub low_unmanaged : (p : Protocol) → p.min_writer < 7 → is_in_force p catalog_managed ≡ false
 low_unmanaged p less = by (nat_lt p.min_writer 7) refl
   where
-    by : (low : Bool) → nat_lt p.min_writer 7 ≡ low → (if low then is_implied_name p catalog_managed else (is_one_of (listed p.writer_features) catalog_managed || is_mapped p catalog_managed)) ≡ false
+    by : (low : Bool) → nat_lt p.min_writer 7 ≡ low → (if low then is_implied_name p catalog_managed else (is_one_of (listed_features p.writer_features) catalog_managed || is_mapped p catalog_managed)) ≡ false
     by true is = refl
     by false is = let least : 7 ≤ p.min_writer = ltb-false p.min_writer 7 is in absurd (omega arith)

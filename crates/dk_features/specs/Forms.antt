@@ -6,7 +6,7 @@ use Rattle.std.specs.Str.{bytes_eq}
 use Rattle.dk_model.specs.declared.action.Protocol.{Protocol}
 use Rattle.dk_model.specs.NameSets.{is_one_of}
 use Rattle.dk_features.specs.Names.{reader_and_writer}
-use Rattle.dk_features.specs.InForce.{implied, is_in_force, listed}
+use Rattle.dk_features.specs.InForce.{implied, is_in_force, listed_features}
 
 -- ---- lists of names
 
@@ -43,7 +43,7 @@ has_form p = has_form_with p.min_reader p.min_writer p.reader_features p.writer_
 
 -- the names of all features that can be in force
 abbrev pub nameable : Protocol → List (List ℕ)
-nameable p = map (λ feature. feature.0) implied ++ listed p.writer_features
+nameable p = map (λ feature. feature.0) implied ++ listed_features p.writer_features
 
 -- a feature in force before is in force after
 abbrev pub stays_in_force : Protocol → Protocol → List ℕ → Bool

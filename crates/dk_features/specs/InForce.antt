@@ -10,9 +10,9 @@ abbrev pub implied : List (List ℕ × ℕ)
 implied = (append_only, 2) ∷ (invariants, 2) ∷ (check_constraints, 3) ∷ (change_data_feed, 4) ∷ (generated_columns, 4) ∷ (column_mapping, 5) ∷ (identity_columns, 6) ∷ []
 
 -- an absent list is empty
-abbrev pub listed : Option (List (List ℕ)) → List (List ℕ)
-listed None = []
-listed (Some names) = names
+abbrev pub listed_features : Option (List (List ℕ)) → List (List ℕ)
+listed_features None = []
+listed_features (Some names) = names
 
 -- a reader version of 2 stands for column mapping
 abbrev pub is_mapped : Protocol → List ℕ → Bool
@@ -32,7 +32,7 @@ is_implied_name p name = is_implied_found p (find (λ feature. bytes_eq name fea
 
 -- the feature is in force: listed for writers from version 7 on, or one that the versions stand for
 abbrev pub is_in_force : Protocol → List ℕ → Bool
-is_in_force p name = if nat_lt p.min_writer 7 then is_implied_name p name else (is_one_of (listed p.writer_features) name || is_mapped p name)
+is_in_force p name = if nat_lt p.min_writer 7 then is_implied_name p name else (is_one_of (listed_features p.writer_features) name || is_mapped p name)
 
 -- of a table by its protocol, where it has one
 unfoldable pub has_feature : Option Protocol → List ℕ → Bool

@@ -12,7 +12,7 @@ use Rattle.dk_features.specs.declared.fault.FeatureList.{FeatureList}
 use Rattle.dk_features.specs.declared.fault.FeatureList.TheVariants as lists
 use Rattle.dk_model.specs.NameSets.{is_one_of}
 use Rattle.dk_features.specs.Names.{both, reading_alone, invariants}
-use Rattle.dk_features.specs.InForce.{implied, is_implied, listed}
+use Rattle.dk_features.specs.InForce.{implied, is_implied, listed_features}
 use Rattle.dk_features.specs.Invariants.{uses_invariants}
 
 abbrev pub answer_of : Option FeatureFault → Result (Unit {0}) FeatureFault
@@ -36,17 +36,17 @@ is_unread name = not (is_read name)
 abbrev pub unread : Protocol → Option FeatureFault
 unread p =
     if (p.min_reader == 1) || (p.min_reader == 2) then None
-    else if p.min_reader == 3 then option_map (faults.Feature lists.Reader) (position_from is_unread 0 (listed p.reader_features))
+    else if p.min_reader == 3 then option_map (faults.Feature lists.Reader) (position_from is_unread 0 (listed_features p.reader_features))
     else Some (faults.ReaderVersion p.min_reader)
 
 -- ---- writing
 
 -- a table with this feature is written, where its schema uses invariants or not
-abbrev pub is_written : Bool → List ℕ → Bool
-is_written uses name = is_one_of both name || (bytes_eq name invariants && not uses)
+abbrev pub is_feature_written : Bool → List ℕ → Bool
+is_feature_written uses name = is_one_of both name || (bytes_eq name invariants && not uses)
 
 abbrev pub is_unwritten : Bool → List ℕ → Bool
-is_unwritten uses name = not (is_written uses name)
+is_unwritten uses name = not (is_feature_written uses name)
 
 -- what is in the way at a feature of this name
 abbrev pub fault_at : FeatureList → List ℕ → ℕ → FeatureFault
@@ -69,7 +69,7 @@ abbrev pub unwritten_version : Bool → Protocol → Option FeatureFault
 unwritten_version uses p =
     if p.min_writer == 1 then None
     else if nat_le 2 p.min_writer && nat_le p.min_writer 6 then unwritten_implied uses p
-    else if p.min_writer == 7 then unwritten_listed uses (listed p.writer_features)
+    else if p.min_writer == 7 then unwritten_listed uses (listed_features p.writer_features)
     else Some (faults.WriterVersion p.min_writer)
 
 -- what can't be read isn't written either
@@ -80,8 +80,8 @@ unwritten p m = option_or (unread p) (unwritten_version (uses_invariants m.schem
 
 -- the names of a list of features
 abbrev pub names_of : Protocol → FeatureList → List (List ℕ)
-names_of p lists.Reader = listed p.reader_features
-names_of p lists.Writer = listed p.writer_features
+names_of p lists.Reader = listed_features p.reader_features
+names_of p lists.Writer = listed_features p.writer_features
 names_of p lists.Implied = map (λ feature. feature.0) implied
 
 -- the name of what is in the way, as a refusal tells it; want of memory has none

@@ -2,7 +2,7 @@
 
 ghost use Rattle.std.specs.Prelude.{◌≡◌, ◌<◌, [], find, get_or, map, option_map};
 ghost use Rattle.std.specs.Str.{bytes_eq};
-ghost use Rattle.dk_features.specs.InForce.{implied, is_implied, is_implied_name, is_in_force, is_mapped, listed};
+ghost use Rattle.dk_features.specs.InForce.{implied, is_implied, is_implied_name, is_in_force, is_mapped, listed_features};
 ghost use Rattle.dk_features.specs.Names.{both, reading_alone};
 ghost use Rattle.dk_model.specs.NameSets.{is_one_of};
 
@@ -93,7 +93,7 @@ pub(crate) fn implied_name(place: usize) -> &'static str
 
 /// The names of a list; an absent one is empty.
 pub(crate) fn listed(names: &Option<Names>) -> &[Text]
-    ensures { result.now ≡ listed names.now }
+    ensures { result.now ≡ listed_features names.now }
 {
     match names {
         None => &[],

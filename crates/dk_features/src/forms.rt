@@ -3,7 +3,7 @@
 ghost use Rattle.std.specs.Prelude.{◌≡◌, ◌||◌, IfOk, None, Some, map};
 ghost use Rattle.std.specs.List.{list_all};
 ghost use Rattle.dk_features.specs.Forms.{are_matched, asks_writers_alone, has_form, has_form_with, is_each_once, is_first_reader, keeps_features, stays_in_force};
-ghost use Rattle.dk_features.specs.InForce.{implied, is_in_force, listed};
+ghost use Rattle.dk_features.specs.InForce.{implied, is_in_force, listed_features};
 ghost use Rattle.dk_model.specs.NameSets.{HasNames, has_name};
 ghost use Rattle.dk_features.specs.Listed.{IsListing};
 

@@ -4,7 +4,7 @@ ghost use Rattle.std.specs.Prelude.{◌≡◌, IfSome, IsSome};
 ghost use Rattle.std.specs.List.{position_from};
 ghost use Rattle.dk_features.specs.InForce.{implied};
 ghost use Rattle.dk_features.specs.Invariants.{uses_invariants};
-ghost use Rattle.dk_features.specs.Support.{answer_of, Answers, fault_at, is_in_the_way, is_unwritten, is_written, unwritten, unwritten_implied, unwritten_listed, unwritten_version};
+ghost use Rattle.dk_features.specs.Support.{answer_of, Answers, fault_at, is_in_the_way, is_unwritten, is_feature_written, unwritten, unwritten_implied, unwritten_listed, unwritten_version};
 
 use crate::fault::{FeatureFault, FeatureList};
 use crate::features::{
@@ -17,7 +17,7 @@ use std::alloc::Global;
 
 /// Whether a table with this feature is written, where its schema uses invariants or not.
 fn is_written(uses_invariants: bool, name: &str) -> bool
-    ensures { result ≡ is_written uses_invariants name.now }
+    ensures { result ≡ is_feature_written uses_invariants name.now }
 {
     is_both(name) || name == INVARIANTS && !uses_invariants
 }

@@ -6,7 +6,7 @@ use Rattle.std.proofs.lemmas.Nat.{pow-add, pow_pos}
 use Rattle.std.proofs.lemmas.List.{append_assoc, length-append, length-replicate}
 use Rattle.std.proofs.lemmas.List.Elements.{All-append, All-replicate}
 use Rattle.std.specs.List.{All}
-use Rattle.dk_grammar.specs.Varint.{IsVarint, varint_at, above}
+use Rattle.dk_grammar.specs.Varint.{IsVarint, varint_at, with_lowest_group}
 use Rattle.dk_grammar.specs.Digits.{number_of, digits_of}
 use Rattle.dk_grammar.specs.Runs.{Run, repeated, packed, header_of, bytes_for, IsBody, IsRun, BeginRun}
 use Rattle.dk_grammar.proofs.Runs.{pair_is}
@@ -98,7 +98,7 @@ longer : (b n high : ℕ) (front : List ℕ) → 128 ≤ b → n + 128 ≡ b + 1
 longer b n high [] h e v = absurd v
 longer b n high (c ∷ front) h e v = (h, (high, e, v))
 
-cut_above : (low : ℕ) (read : Option (ℕ × List ℕ)) → above low read ≡ None → read ≡ None
+cut_above : (low : ℕ) (read : Option (ℕ × List ℕ)) → with_lowest_group low read ≡ None → read ≡ None
 cut_above low None h = refl
 cut_above low (Some high) h = cc
 
@@ -113,7 +113,7 @@ no_number = None
 number_ends : (bytes : List ℕ) → varint_at bytes ≡ None → (n : ℕ) × IsVarint (bytes ++ 0 ∷ []) n
 number_ends [] none = (0, (omega arith, refl))
 number_ends (b ∷ bs) none =
-    elim (chosen (nat_lt b 128) (Some (b, bs)) (above (b - 128) (varint_at bs)) no_number none) [
+    elim (chosen (nat_lt b 128) (Some (b, bs)) (with_lowest_group (b - 128) (varint_at bs)) no_number none) [
       | inl small ↦ (let never : Some (b, bs) ≡ no_number = small.1 in cc)
       | inr large ↦ (
           let rest = number_ends bs (cut_above (b - 128) (varint_at bs) large.1) in
@@ -157,7 +157,7 @@ number_begun width bytes none =
       begun = subst (λ bs. IsRun width rest.0 bs) (append_assoc bytes (0 ∷ []) rest.1) rest.2;
     }
 
-under : (low : ℕ) (read : Option (ℕ × List ℕ)) (n : ℕ) (rest : List ℕ) → above low read ≡ Some (n, rest) → (high : ℕ) × (read ≡ Some (high, rest)) × (n ≡ low + 128 * high)
+under : (low : ℕ) (read : Option (ℕ × List ℕ)) (n : ℕ) (rest : List ℕ) → with_lowest_group low read ≡ Some (n, rest) → (high : ℕ) × (read ≡ Some (high, rest)) × (n ≡ low + 128 * high)
 under low None n rest h = cc
 under low (Some p) n rest h =
     let same : (low + 128 * p.0, p.1) ≡ (n, rest) = pair_is (low + 128 * p.0, p.1) (n, rest) h in
@@ -175,7 +175,7 @@ some_number n rest = Some (n, rest)
 pub varint_taken : (bytes : List ℕ) (n : ℕ) (rest : List ℕ) → varint_at bytes ≡ Some (n, rest) → SpellsFirst bytes n rest
 varint_taken [] n rest h = cc
 varint_taken (b ∷ bs) n rest h =
-    elim (chosen (nat_lt b 128) (some_number b bs) (above (b - 128) (varint_at bs)) (some_number n rest) h) [
+    elim (chosen (nat_lt b 128) (some_number b bs) (with_lowest_group (b - 128) (varint_at bs)) (some_number n rest) h) [
       | inl small ↦ (
           let same : (b, bs) ≡ (n, rest) = pair_is (b, bs) (n, rest) small.1 in
           let less : b < 128 = ltb-true b 128 small.0 in

@@ -5,8 +5,8 @@ use Rattle.dk_grammar.specs.Thrift.{Front, ◌>>=◌, list_at, head}
 use Rattle.dk_grammar.specs.Grammar.{ReadsBy, Spelled, SpellsList}
 use Rattle.dk_grammar.specs.Structs.{Meaning}
 use Rattle.dk_grammar.specs.Nested.{Repeats, SpellsElements, SpellsAnyElement}
-use Rattle.dk_grammar.specs.Passed.{kind_of}
-use Rattle.dk_grammar.specs.Lists.{each_at, list_of, SpellsEach, may_hold, SpellsListHeader, SpellsListOf, Either, held, other, is_held, held_or, SpellsHeldOr, turned, SpelledBy}
+use Rattle.dk_grammar.specs.Passed.{kind_numbered}
+use Rattle.dk_grammar.specs.Lists.{each_at, list_of, SpellsEach, may_hold, SpellsListHeader, SpellsListOf, Either, held, other, is_held, held_or, SpellsHeldOr, read_turned, SpelledBy}
 use Rattle.dk_grammar.specs.declared.thrift.ListHead.{ListHead}
 use Rattle.dk_grammar.proofs.Fronts.{choice, bound, ok_is, bad_is_not_ok}
 use Rattle.dk_grammar.proofs.Spellings.{lists}
@@ -61,8 +61,8 @@ module _ {A : Type 0} (spells : List ℕ → A → Type 0) (read : List ℕ → 
   lists_by kind = record { spelled = list_spelled kind; given = list_given kind }
 
 -- A list of values is passed over where each of them is.
-module _ {A : Type 0} (kind levels : ℕ) (spells : List ℕ → A → Type 0) (passed : (bytes : List ℕ) (x : A) → spells bytes x → SpellsAnyElement levels (kind_of kind) bytes) where
-  each_passed : (values : List A) (bytes : List ℕ) → SpellsEach spells bytes values → Repeats (SpellsAnyElement levels (kind_of kind)) (length values) bytes
+module _ {A : Type 0} (kind levels : ℕ) (spells : List ℕ → A → Type 0) (passed : (bytes : List ℕ) (x : A) → spells bytes x → SpellsAnyElement levels (kind_numbered kind) bytes) where
+  each_passed : (values : List A) (bytes : List ℕ) → SpellsEach spells bytes values → Repeats (SpellsAnyElement levels (kind_numbered kind)) (length values) bytes
   each_passed [] bytes s = s
   each_passed (x ∷ xs) bytes s = (s.0, (s.1.0, s.1.1, passed s.0 x s.1.2, each_passed xs s.1.0 s.1.3))
 
@@ -81,16 +81,16 @@ module _ {A : Type 0} (kind levels : ℕ) (spells : List ℕ → A → Type 0) (
       (head (length (x ∷ xs)) kind, (s.0, (s.1.0, s.1.1, header, each_passed (x ∷ xs) s.1.0 s.1.3)))
 
 module _ {A B : Type 0} (f : A → B) (spells : List ℕ → A → Type 0) (read : List ℕ → Front A) (by : ReadsBy spells read) where
-  turned_spelled : (bytes rest : List ℕ) (y : B) → turned f read bytes ≡ Ok (y, rest) → Spelled (SpelledBy f spells) bytes y rest
+  turned_spelled : (bytes rest : List ℕ) (y : B) → read_turned f read bytes ≡ Ok (y, rest) → Spelled (SpelledBy f spells) bytes y rest
   turned_spelled bytes rest y h =
       let x = bound (read bytes) (λ x. Ok (f x.0, x.1)) (y, rest) h in
       let t = by.spelled bytes x.0.1 x.0.0 x.1 in
       subst (λ (z : B × List ℕ). Spelled (SpelledBy f spells) bytes z.0 z.1) (ok_is (f x.0.0, x.0.1) (y, rest) x.2) (t.0, t.1, (x.0.0, t.2, refl))
 
-  turned_given : (front rest : List ℕ) (y : B) → SpelledBy f spells front y → turned f read (front ++ rest) ≡ Ok (y, rest)
+  turned_given : (front rest : List ℕ) (y : B) → SpelledBy f spells front y → read_turned f read (front ++ rest) ≡ Ok (y, rest)
   turned_given front rest y s = rw (by.given front rest s.0 s.1, s.2) refl
 
-  pub turned_by : ReadsBy (SpelledBy f spells) (turned f read)
+  pub turned_by : ReadsBy (SpelledBy f spells) (read_turned f read)
   turned_by = record { spelled = turned_spelled; given = turned_given }
 
 module _ {A B : Type 0} (wanted : ℤ) (of : ℕ) (spells : List ℕ → A → Type 0) (read : List ℕ → Front A) (by : ReadsBy spells read)

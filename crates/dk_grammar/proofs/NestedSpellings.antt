@@ -4,7 +4,7 @@ use Rattle.std.proofs.lemmas.Bool.{and_parts, and_from}
 use Rattle.std.proofs.lemmas.List.{length-append}
 use Rattle.dk_grammar.specs.Thrift.{Front, number_at, bytes_at, binary_at, count_at, list_at, field_at, is_kind}
 use Rattle.dk_grammar.specs.Grammar.{SpellsNumber, SpellsField, SpellsList, Spelled}
-use Rattle.dk_grammar.specs.Passed.{Rest, rest_of, each, entry_passed, entries_passed, list_passed, map_passed, value_passed, field_passed, fields_passed, struct_passed, too_deep, element_passed, kind_of, passed_at}
+use Rattle.dk_grammar.specs.Passed.{Rest, rest_of, each, entry_passed, entries_passed, list_passed, map_passed, value_passed, field_passed, fields_passed, struct_passed, too_deep, element_passed, kind_numbered, passed_at}
 use Rattle.dk_grammar.specs.Nested.{Behind, Repeats, SpellsElements, SpellsEntries, SpellsMap, SpellsFieldValue, SpellsAnyFields, SpellsAnyStruct, SpellsAnyElement, SpellsValue, Takes, PassesBy}
 use Rattle.dk_grammar.specs.declared.thrift.Field.{Field}
 use Rattle.dk_grammar.specs.declared.thrift.Field.TheVariants.{End, Next}
@@ -41,8 +41,8 @@ module _ (spells : Kind → List ℕ → Type 0) (pass : Kind → List ℕ → R
   list_spelled : IsSpelled (SpellsElements spells) (list_passed pass)
   list_spelled bytes rest h =
       let x = bound (list_at bytes) _ rest h in
-      let t = both (λ front. SpellsList front x.0.0) (Repeats (spells (kind_of x.0.0.kind)) x.0.0.count) bytes x.0.1 rest (lists.spelled bytes x.0.1 x.0.0 x.1)
-      (each_spelled (spells (kind_of x.0.0.kind)) (pass (kind_of x.0.0.kind)) (by (kind_of x.0.0.kind)) x.0.0.count x.0.1 rest x.2) in
+      let t = both (λ front. SpellsList front x.0.0) (Repeats (spells (kind_numbered x.0.0.kind)) x.0.0.count) bytes x.0.1 rest (lists.spelled bytes x.0.1 x.0.0 x.1)
+      (each_spelled (spells (kind_numbered x.0.0.kind)) (pass (kind_numbered x.0.0.kind)) (by (kind_numbered x.0.0.kind)) x.0.0.count x.0.1 rest x.2) in
       (t.0, t.1, (x.0.0, t.2))
 
   entry_spelled : (key value : Kind) → IsSpelled (Behind (spells key) (spells value)) (entry_passed pass key value)
@@ -57,8 +57,8 @@ module _ (spells : Kind → List ℕ → Type 0) (pass : Kind → List ℕ → R
       elim (choice (is_kind (b / 16) && is_kind (b % 16)) _ _ _ h) [
         | inl c ↦ (
             let known = and_parts (is_kind (b / 16)) (is_kind (b % 16)) c.0 in
-            let t = each_spelled (Behind (spells (kind_of (b / 16))) (spells (kind_of (b % 16)))) (entry_passed pass (kind_of (b / 16)) (kind_of (b % 16)))
-            (entry_spelled (kind_of (b / 16)) (kind_of (b % 16))) (suc n) bs rest c.1 in
+            let t = each_spelled (Behind (spells (kind_numbered (b / 16))) (spells (kind_numbered (b % 16)))) (entry_passed pass (kind_numbered (b / 16)) (kind_numbered (b % 16)))
+            (entry_spelled (kind_numbered (b / 16)) (kind_numbered (b % 16))) (suc n) bs rest c.1 in
             (b ∷ t.0, ap (λ x. b ∷ x) t.1, (known.0, known.1, t.2)))
         | inr c ↦ absurd (bad_is_not_ok (b ∷ bs) rest c.1)
       ]
@@ -86,10 +86,10 @@ module _ (spells : Kind → List ℕ → Type 0) (pass : Kind → List ℕ → R
       → Spelled (SpellsField last) bytes field after → field_passed pass (fields_passed pass most) field after ≡ Ok rest → (n : ℕ) × Takes (SpellsAnyFields spells n last) bytes rest
   field_spelled most last bytes rest End after go t e = (0, (t.0, t.1 ∙ ap (λ x. t.0 ++ x) (ok_is after rest e), t.2))
   field_spelled most last bytes rest (Next id kind) after go t e =
-      let y = bound (value_passed pass (kind_of kind) after) (fields_passed pass most id) rest e in
+      let y = bound (value_passed pass (kind_numbered kind) after) (fields_passed pass most id) rest e in
       let u = go id y.0 y.2 in
-      let v = both (λ header. SpellsField last header (Next id kind)) (Behind (SpellsFieldValue spells (kind_of kind)) (SpellsAnyFields spells u.0 id)) bytes after rest t
-      (both (SpellsFieldValue spells (kind_of kind)) (SpellsAnyFields spells u.0 id) after y.0 rest (value_spelled (kind_of kind) after y.0 y.1) u.1) in
+      let v = both (λ header. SpellsField last header (Next id kind)) (Behind (SpellsFieldValue spells (kind_numbered kind)) (SpellsAnyFields spells u.0 id)) bytes after rest t
+      (both (SpellsFieldValue spells (kind_numbered kind)) (SpellsAnyFields spells u.0 id) after y.0 rest (value_spelled (kind_numbered kind) after y.0 y.1) u.1) in
       (suc u.0, (v.0, v.1, (id, (kind, v.2))))
 
   fields_spelled : (most : ℕ) (last : ℤ) (bytes rest : List ℕ) → fields_passed pass most last bytes ≡ Ok rest → (n : ℕ) × Takes (SpellsAnyFields spells n last) bytes rest
@@ -127,7 +127,7 @@ element_spelled (suc levels) kinds.Struct bytes rest h = struct_spelled (SpellsA
 passed_spelled : (kind : ℕ) → IsSpelled (SpellsValue kind) (passed_at kind)
 passed_spelled kind bytes rest h =
     elim (choice (is_kind kind) _ _ _ h) [
-      | inl c ↦ (let t = value_spelled (SpellsAnyElement 32) (element_passed 32) (element_spelled 32) (kind_of kind) bytes rest c.1 in (t.0, t.1, (c.0, t.2)))
+      | inl c ↦ (let t = value_spelled (SpellsAnyElement 32) (element_passed 32) (element_spelled 32) (kind_numbered kind) bytes rest c.1 in (t.0, t.1, (c.0, t.2)))
       | inr c ↦ absurd (bad_is_not_ok bytes rest c.1)
     ]
 
@@ -138,7 +138,7 @@ module _ (spells : Kind → List ℕ → Type 0) (pass : Kind → List ℕ → R
       let head = s.1.0 in
       let more = s.1.1.0 in
       rw (s.1.1.1, append_assoc head more rest, lists.given head (more ++ rest) list s.1.1.2)
-      (each_taken (spells (kind_of list.kind)) (pass (kind_of list.kind)) (by (kind_of list.kind)) list.count more rest s.1.1.3)
+      (each_taken (spells (kind_numbered list.kind)) (pass (kind_numbered list.kind)) (by (kind_numbered list.kind)) list.count more rest s.1.1.3)
 
   entry_taken : (key value : Kind) → IsTaken (Behind (spells key) (spells value)) (entry_passed pass key value)
   entry_taken key value front rest s = rw (s.1.1, append_assoc s.0 s.1.0 rest, by key s.0 (s.1.0 ++ rest) s.1.2) (by value s.1.0 rest s.1.3)
@@ -148,8 +148,8 @@ module _ (spells : Kind → List ℕ → Type 0) (pass : Kind → List ℕ → R
   entries_taken (suc n) [] rest s = absurd s
   entries_taken (suc n) (b ∷ bs) rest s =
       rw (and_from (is_kind (b / 16)) (is_kind (b % 16)) s.0 s.1)
-      (each_taken (Behind (spells (kind_of (b / 16))) (spells (kind_of (b % 16)))) (entry_passed pass (kind_of (b / 16)) (kind_of (b % 16)))
-      (entry_taken (kind_of (b / 16)) (kind_of (b % 16))) (suc n) bs rest s.2)
+      (each_taken (Behind (spells (kind_numbered (b / 16))) (spells (kind_numbered (b % 16)))) (entry_passed pass (kind_numbered (b / 16)) (kind_numbered (b % 16)))
+      (entry_taken (kind_numbered (b / 16)) (kind_numbered (b % 16))) (suc n) bs rest s.2)
 
   map_taken : IsTaken (SpellsMap spells) (map_passed pass)
   map_taken front rest s =
@@ -184,7 +184,7 @@ module _ (spells : Kind → List ℕ → Type 0) (pass : Kind → List ℕ → R
         (fields last).given header (behind_header ++ rest) (Next id kind) s.1.1.1.2,
         inner.1.1,
         append_assoc value more rest,
-        value_taken (kind_of kind) value (more ++ rest) inner.1.2,
+        value_taken (kind_numbered kind) value (more ++ rest) inner.1.2,
       )
       (fields_taken n most id more rest (omega arith) inner.1.3)
 
@@ -237,5 +237,5 @@ element_taken (suc levels) kinds.Struct front rest s = struct_taken (SpellsAnyEl
 pub values : (kind : ℕ) → PassesBy (SpellsValue kind) (passed_at kind)
 values kind = record {
   spelled = passed_spelled kind;
-  taken = λ front rest s. rw s.0 (value_taken (SpellsAnyElement 32) (element_passed 32) (element_taken 32) (kind_of kind) front rest s.1);
+  taken = λ front rest s. rw s.0 (value_taken (SpellsAnyElement 32) (element_passed 32) (element_taken 32) (kind_numbered kind) front rest s.1);
 }

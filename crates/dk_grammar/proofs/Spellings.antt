@@ -5,7 +5,7 @@ use Rattle.std.proofs.Math.Seq.{take-append_seam, drop-append_seam}
 use Rattle.std.proofs.lemmas.Nat.{mod-mul-add, div-mul-add}
 use Rattle.std.proofs.lemmas.List.{take-append-drop, length-append, length-take-le}
 use Rattle.std.proofs.lemmas.Bool.{and_parts, leb-true, le-leb, eqb-true, eqb-false, ne_eqb, ltb-true, ltb-false, lt-ltb, le-ltb, or_cases}
-use Rattle.dk_grammar.specs.Varint.{IsVarint, varint_at, above}
+use Rattle.dk_grammar.specs.Varint.{IsVarint, varint_at, with_lowest_group}
 use Rattle.dk_grammar.specs.Zigzag.{zigzag_of}
 use Rattle.dk_grammar.specs.Thrift.{of_64_bits, number_at, whole_at, bytes_at, binary_at, count_at, list_at, head, field_at, id_at, is_id, is_kind}
 use Rattle.dk_grammar.specs.Grammar.{SpellsNumber, SpellsWhole, SpellsBinary, SpellsField, SpellsList, Spelled, ReadsBy}
@@ -24,7 +24,7 @@ longer b n high (c ∷ front) h e v = (h, (high, omega arith, v))
 some_is : (x y : ℕ × List ℕ) → Some x ≡ Some y → x ≡ y
 some_is x y h = cc
 
-under : (low : ℕ) (r : Option (ℕ × List ℕ)) (x : ℕ × List ℕ) → above low r ≡ Some x → (y : ℕ × List ℕ) × (r ≡ Some y) × ((low + 128 * y.0, y.1) ≡ x)
+under : (low : ℕ) (r : Option (ℕ × List ℕ)) (x : ℕ × List ℕ) → with_lowest_group low r ≡ Some x → (y : ℕ × List ℕ) × (r ≡ Some y) × ((low + 128 * y.0, y.1) ≡ x)
 under low None x h = cc
 under low (Some y) x h = (y, refl, some_is _ x h)
 

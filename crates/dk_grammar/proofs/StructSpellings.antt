@@ -9,7 +9,7 @@ use Rattle.dk_grammar.specs.declared.thrift.Field.TheVariants.{End, Next}
 use Rattle.dk_grammar.proofs.Fronts.{choice, bound, ok_is}
 use Rattle.dk_grammar.proofs.Spellings.{fields, wholes, short_is_not_ok}
 use Rattle.dk_grammar.proofs.NestedSpellings.{values}
-use Rattle.dk_grammar.specs.Structs.{Listed, Meaning, under, field_then, fields_from, struct_at, is_whole, number_meaning, SpellsFields, SpellsStruct, SpellsNumberField}
+use Rattle.dk_grammar.specs.Structs.{FieldValues, Meaning, under, value_then_fields, fields_from, struct_at, is_whole, number_meaning, SpellsFields, SpellsStruct, SpellsNumberField}
 use Rattle.dk_grammar.specs.PageHeaders.{Part, number, inner, is_inner, part_meaning, SpellsPart, SpellsHeader}
 
 joined : (bytes front middle more rest : List ℕ) → bytes ≡ front ++ middle → middle ≡ more ++ rest → bytes ≡ (front ++ more) ++ rest
@@ -20,7 +20,7 @@ header_long last [] field s = absurd s
 header_long last (b ∷ bs) field s = omega arith
 
 -- each field takes a byte at least, and so does the end
-pub fields_long : {V : Type 0} (spells : ℤ → ℕ → List ℕ → Option V → Type 0) (n : ℕ) (last : ℤ) (front : List ℕ) (more : Listed V) → SpellsFields spells n last front more → n < length front
+pub fields_long : {V : Type 0} (spells : ℤ → ℕ → List ℕ → Option V → Type 0) (n : ℕ) (last : ℤ) (front : List ℕ) (more : FieldValues V) → SpellsFields spells n last front more → n < length front
 fields_long spells zero last front more s = header_long last front End s.0
 fields_long spells (suc n) last front more s =
     let behind = s.1.1.1.1.1 in
@@ -39,9 +39,9 @@ fields_long spells (suc n) last front more s =
 
 module _ {V : Type 0} (spells : ℤ → ℕ → List ℕ → Option V → Type 0) (meaning : Meaning V) (by : (id : ℤ) (kind : ℕ) → ReadsBy (spells id kind) (meaning id kind)) where
   -- the fields behind a header, where those behind it are known to be spelled
-  field_spelled : (most : ℕ) (last : ℤ) (bytes rest : List ℕ) (found : Listed V) (field : Field) (after : List ℕ)
-      → ((id : ℤ) (more left : List ℕ) (others : Listed V) → fields_from meaning most id more ≡ Ok (others, left) → (n : ℕ) × Spelled (SpellsFields spells n id) more others left)
-      → Spelled (SpellsField last) bytes field after → field_then meaning (fields_from meaning most) field after ≡ Ok (found, rest) → (n : ℕ) × Spelled (SpellsFields spells n last) bytes found rest
+  field_spelled : (most : ℕ) (last : ℤ) (bytes rest : List ℕ) (found : FieldValues V) (field : Field) (after : List ℕ)
+      → ((id : ℤ) (more left : List ℕ) (others : FieldValues V) → fields_from meaning most id more ≡ Ok (others, left) → (n : ℕ) × Spelled (SpellsFields spells n id) more others left)
+      → Spelled (SpellsField last) bytes field after → value_then_fields meaning (fields_from meaning most) field after ≡ Ok (found, rest) → (n : ℕ) × Spelled (SpellsFields spells n last) bytes found rest
   field_spelled most last bytes rest found End after go t e =
       let p = ok_is ([], after) (found, rest) e in
       (0, (t.0, t.1 ∙ ap (λ x. t.0 ++ x) (ap (λ x. x.1) p), (t.2, sym (ap (λ x. x.0) p))))
@@ -59,13 +59,13 @@ module _ {V : Type 0} (spells : ℤ → ℕ → List ℕ → Option V → Type 0
         ),
       )
 
-  fields_spelled : (most : ℕ) (last : ℤ) (bytes rest : List ℕ) (found : Listed V) → fields_from meaning most last bytes ≡ Ok (found, rest) → (n : ℕ) × Spelled (SpellsFields spells n last) bytes found rest
+  fields_spelled : (most : ℕ) (last : ℤ) (bytes rest : List ℕ) (found : FieldValues V) → fields_from meaning most last bytes ≡ Ok (found, rest) → (n : ℕ) × Spelled (SpellsFields spells n last) bytes found rest
   fields_spelled zero last bytes rest found h = absurd (short_is_not_ok (found, rest) h)
   fields_spelled (suc most) last bytes rest found h =
-      let x = bound (field_at last bytes) (λ x. field_then meaning (fields_from meaning most) x.0 x.1) (found, rest) h in
+      let x = bound (field_at last bytes) (λ x. value_then_fields meaning (fields_from meaning most) x.0 x.1) (found, rest) h in
       field_spelled most last bytes rest found x.0.0 x.0.1 (λ id more left others e. fields_spelled most id more left others e) ((fields last).spelled bytes x.0.1 x.0.0 x.1) x.2
 
-  fields_given : (n most : ℕ) (last : ℤ) (front rest : List ℕ) (found : Listed V) → n < most → SpellsFields spells n last front found → fields_from meaning most last (front ++ rest) ≡ Ok (found, rest)
+  fields_given : (n most : ℕ) (last : ℤ) (front rest : List ℕ) (found : FieldValues V) → n < most → SpellsFields spells n last front found → fields_from meaning most last (front ++ rest) ≡ Ok (found, rest)
   fields_given n zero last front rest found few s = absurd (omega arith)
   fields_given zero (suc most) last front rest found few s = rw ((fields last).given front rest End s.0, s.1) refl
   fields_given (suc n) (suc most) last front rest found few s =
@@ -87,7 +87,7 @@ module _ {V : Type 0} (spells : ℤ → ℕ → List ℕ → Option V → Type 0
       )
       refl
 
-  struct_given : (front rest : List ℕ) (found : Listed V) → SpellsStruct spells front found → struct_at meaning (front ++ rest) ≡ Ok (found, rest)
+  struct_given : (front rest : List ℕ) (found : FieldValues V) → SpellsStruct spells front found → struct_at meaning (front ++ rest) ≡ Ok (found, rest)
   struct_given front rest found s =
       let long : s.0 < length front = fields_long spells s.0 (pos 0) front found s.1 in
       let whole : length (front ++ rest) ≡ length front + length rest = length-append front rest in

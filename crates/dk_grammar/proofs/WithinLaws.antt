@@ -1,8 +1,8 @@
 -- Each front leads to a place within the bytes.
 use Rattle.std.proofs.Common.{◌≡◌, ℕ, zero, suc, ◌-◌, ◌<◌, ◌≤◌, ◌/◌, ◌%◌, ◌^◌, Bool, true, false, cond, nat_lt, nat_le, ◌&&◌, ◌||◌, ◌==◌, ℤ, pos, ◌+ℤ◌, List, [], ◌∷◌, length, drop, take, Option, Some, None, Result, Ok, Err, arith, length-drop}
-use Rattle.dk_grammar.specs.Varint.{varint_at, above}
+use Rattle.dk_grammar.specs.Varint.{varint_at, with_lowest_group}
 use Rattle.dk_grammar.specs.Thrift.{Front, ◌>>=◌, bad_at, of_64_bits, number_at, whole_at, bytes_at, binary_at, count_at, list_at, field_at, id_at, is_id, is_kind}
-use Rattle.dk_grammar.specs.Passed.{Rest, rest_of, each, entry_passed, entries_passed, list_passed, map_passed, value_passed, field_passed, fields_passed, too_deep, element_passed, kind_of, passed_at}
+use Rattle.dk_grammar.specs.Passed.{Rest, rest_of, each, entry_passed, entries_passed, list_passed, map_passed, value_passed, field_passed, fields_passed, too_deep, element_passed, kind_numbered, passed_at}
 use Rattle.dk_grammar.specs.Within.{Within}
 use Rattle.dk_grammar.specs.declared.thrift.Field.{Field}
 use Rattle.dk_grammar.specs.declared.thrift.Field.TheVariants.{End, Next}
@@ -33,7 +33,7 @@ abbrev VarintWithin : List ℕ → Option (ℕ × List ℕ) → Type 0
 VarintWithin bytes None = Unit {0}
 VarintWithin bytes (Some x) = length x.1 < length bytes
 
-above_within : (b low : ℕ) (bs : List ℕ) (r : Option (ℕ × List ℕ)) → VarintWithin bs r → VarintWithin (b ∷ bs) (above low r)
+above_within : (b low : ℕ) (bs : List ℕ) (r : Option (ℕ × List ℕ)) → VarintWithin bs r → VarintWithin (b ∷ bs) (with_lowest_group low r)
 above_within b low bs None w = tt
 above_within b low bs (Some x) w = omega arith
 
@@ -107,7 +107,7 @@ each_within pass w (suc n) bytes = then_ (λ rest. rest) (λ rest. rest) bytes (
 module _ (pass : Kind → List ℕ → Rest) (w : (kind : Kind) → StaysWithin (pass kind)) where
   list_passed_within : StaysWithin (list_passed pass)
   list_passed_within bytes =
-      then_ snd (λ rest. rest) bytes (list_at bytes) _ (list_within bytes) (λ x. each_within (pass (kind_of x.0.kind)) (w (kind_of x.0.kind)) x.0.count x.1)
+      then_ snd (λ rest. rest) bytes (list_at bytes) _ (list_within bytes) (λ x. each_within (pass (kind_numbered x.0.kind)) (w (kind_numbered x.0.kind)) x.0.count x.1)
 
   entry_within : (key value : Kind) → StaysWithin (entry_passed pass key value)
   entry_within key value bytes = then_ (λ rest. rest) (λ rest. rest) bytes (pass key bytes) (pass value) (w key bytes) (w value)
@@ -117,7 +117,7 @@ module _ (pass : Kind → List ℕ → Rest) (w : (kind : Kind) → StaysWithin 
   entries_within (suc n) [] = omega arith
   entries_within (suc n) (b ∷ bs) =
       either (λ rest. rest) (b ∷ bs) (is_kind (b / 16) && is_kind (b % 16)) _ _
-      (one_more (λ rest. rest) b bs _ (each_within (entry_passed pass (kind_of (b / 16)) (kind_of (b % 16))) (entry_within (kind_of (b / 16)) (kind_of (b % 16))) (suc n) bs))
+      (one_more (λ rest. rest) b bs _ (each_within (entry_passed pass (kind_numbered (b / 16)) (kind_numbered (b % 16))) (entry_within (kind_numbered (b / 16)) (kind_numbered (b % 16))) (suc n) bs))
       (omega arith)
 
   map_passed_within : StaysWithin (map_passed pass)
@@ -135,7 +135,7 @@ module _ (pass : Kind → List ℕ → Rest) (w : (kind : Kind) → StaysWithin 
 
   field_passed_within : (go_on : ℤ → List ℕ → Rest) → ((id : ℤ) → StaysWithin (go_on id)) → (field : Field) → StaysWithin (field_passed pass go_on field)
   field_passed_within go_on g End bytes = omega arith
-  field_passed_within go_on g (Next id kind) bytes = then_ (λ rest. rest) (λ rest. rest) bytes (value_passed pass (kind_of kind) bytes) (go_on id) (value_within (kind_of kind) bytes) (g id)
+  field_passed_within go_on g (Next id kind) bytes = then_ (λ rest. rest) (λ rest. rest) bytes (value_passed pass (kind_numbered kind) bytes) (go_on id) (value_within (kind_numbered kind) bytes) (g id)
 
   fields_within : (most : ℕ) (last : ℤ) → StaysWithin (fields_passed pass most last)
   fields_within zero last bytes = omega arith
@@ -161,4 +161,4 @@ element_within (suc levels) kinds.Struct bytes = fields_within (element_passed l
 
 pub passed_within : (kind : ℕ) → StaysWithin (passed_at kind)
 passed_within kind bytes =
-    either (λ rest. rest) bytes (is_kind kind) _ _ (value_within (element_passed 32) (element_within 32) (kind_of kind) bytes) (omega arith)
+    either (λ rest. rest) bytes (is_kind kind) _ _ (value_within (element_passed 32) (element_within 32) (kind_numbered kind) bytes) (omega arith)

@@ -4,7 +4,7 @@ use Rattle.std.specs.Ordering.{int_eq}
 use Rattle.dk_grammar.specs.Thrift.{Front, ◌>>=◌, bad_at, list_at, head}
 use Rattle.dk_grammar.specs.Grammar.{SpellsList}
 use Rattle.dk_grammar.specs.Nested.{Behind}
-use Rattle.dk_grammar.specs.Structs.{Listed, Meaning}
+use Rattle.dk_grammar.specs.Structs.{FieldValues, Meaning}
 
 -- so many values behind one another
 abbrev pub each_at : {A : Type 0} → (List ℕ → Front A) → ℕ → List ℕ → Front (List A)
@@ -52,26 +52,26 @@ SpellsHeldOr id kind spells rest i k bytes (Some (other y)) = IsFalse (is_held i
 SpellsHeldOr id kind spells rest i k bytes None = IsFalse (is_held id kind i k) × rest i k bytes None
 
 -- one of the two sorts
-abbrev pub own_held : {A B : Type 0} → ℤ → Either A B → Listed A
+abbrev pub own_held : {A B : Type 0} → ℤ → Either A B → FieldValues A
 own_held id (held x) = (id, x) ∷ []
 own_held id (other y) = []
 
-abbrev pub own_other : {A B : Type 0} → ℤ → Either A B → Listed B
+abbrev pub own_other : {A B : Type 0} → ℤ → Either A B → FieldValues B
 own_other id (held x) = []
 own_other id (other y) = (id, y) ∷ []
 
 -- the held values, and the others
-abbrev pub held_in : {A B : Type 0} → Listed (Either A B) → Listed A
+abbrev pub held_in : {A B : Type 0} → FieldValues (Either A B) → FieldValues A
 held_in [] = []
 held_in (x ∷ xs) = own_held x.0 x.1 ++ held_in xs
 
-abbrev pub others_in : {A B : Type 0} → Listed (Either A B) → Listed B
+abbrev pub others_in : {A B : Type 0} → FieldValues (Either A B) → FieldValues B
 others_in [] = []
 others_in (x ∷ xs) = own_other x.0 x.1 ++ others_in xs
 
 -- what is read, turned by a function
-abbrev pub turned : {A B : Type 0} → (A → B) → (List ℕ → Front A) → List ℕ → Front B
-turned f read bytes = read bytes >>= λ x. Ok (f x.0, x.1)
+abbrev pub read_turned : {A B : Type 0} → (A → B) → (List ℕ → Front A) → List ℕ → Front B
+read_turned f read bytes = read bytes >>= λ x. Ok (f x.0, x.1)
 
 abbrev pub SpelledBy : {A B : Type 0} → (A → B) → (List ℕ → A → Type 0) → List ℕ → B → Type 0
 SpelledBy {A} f spells bytes y = (x : A) × spells bytes x × (y ≡ f x)

@@ -2,7 +2,7 @@
 use Rattle.std.specs.Prelude.{◌≡◌, ℕ, zero, suc, ◌/◌, ◌%◌, ◌^◌, ◌<◌, IsTrue, ℤ, pos, Ok, List, [], ◌∷◌, ◌++◌, length}
 use Rattle.dk_grammar.specs.Thrift.{is_kind}
 use Rattle.dk_grammar.specs.Grammar.{SpellsNumber, SpellsBinary, SpellsField, SpellsList}
-use Rattle.dk_grammar.specs.Passed.{Rest, kind_of}
+use Rattle.dk_grammar.specs.Passed.{Rest, kind_numbered}
 use Rattle.dk_grammar.specs.declared.thrift.Field.TheVariants.{End, Next}
 use Rattle.dk_grammar.specs.declared.thrift.ListHead.{ListHead}
 use Rattle.dk_grammar.specs.declared.thrift.Kind.{Kind}
@@ -19,14 +19,14 @@ Repeats spells (suc n) bytes = Behind spells (Repeats spells n) bytes
 
 -- `spells` says which bytes are an element of a kind
 abbrev pub SpellsElements : (Kind → List ℕ → Type 0) → List ℕ → Type 0
-SpellsElements spells bytes = (list : ListHead) × Behind (λ front. SpellsList front list) (Repeats (spells (kind_of list.kind)) list.count) bytes
+SpellsElements spells bytes = (list : ListHead) × Behind (λ front. SpellsList front list) (Repeats (spells (kind_numbered list.kind)) list.count) bytes
 
 -- an empty map is its count alone; else a byte has the kinds of the keys and of the values
 abbrev pub SpellsEntries : (Kind → List ℕ → Type 0) → ℕ → List ℕ → Type 0
 SpellsEntries spells zero bytes = bytes ≡ []
 SpellsEntries spells (suc n) [] = ⊥
 SpellsEntries spells (suc n) (b ∷ bs) =
-    IsTrue (is_kind (b / 16)) × IsTrue (is_kind (b % 16)) × Repeats (Behind (spells (kind_of (b / 16))) (spells (kind_of (b % 16)))) (suc n) bs
+    IsTrue (is_kind (b / 16)) × IsTrue (is_kind (b % 16)) × Repeats (Behind (spells (kind_numbered (b / 16))) (spells (kind_numbered (b % 16)))) (suc n) bs
 
 abbrev pub SpellsMap : (Kind → List ℕ → Type 0) → List ℕ → Type 0
 SpellsMap spells bytes = (n : ℕ) × Behind (λ front. (n < 2 ^ 32) × SpellsNumber front n) (SpellsEntries spells n) bytes
@@ -40,7 +40,7 @@ SpellsFieldValue spells kind bytes = spells kind bytes
 abbrev pub SpellsAnyFields : (Kind → List ℕ → Type 0) → ℕ → ℤ → List ℕ → Type 0
 SpellsAnyFields spells zero last bytes = SpellsField last bytes End
 SpellsAnyFields spells (suc n) last bytes =
-    (id : ℤ) × ((kind : ℕ) × Behind (λ header. SpellsField last header (Next id kind)) (Behind (SpellsFieldValue spells (kind_of kind)) (SpellsAnyFields spells n id)) bytes)
+    (id : ℤ) × ((kind : ℕ) × Behind (λ header. SpellsField last header (Next id kind)) (Behind (SpellsFieldValue spells (kind_numbered kind)) (SpellsAnyFields spells n id)) bytes)
 
 abbrev pub SpellsAnyStruct : (Kind → List ℕ → Type 0) → List ℕ → Type 0
 SpellsAnyStruct spells bytes = (n : ℕ) × SpellsAnyFields spells n (pos 0) bytes
@@ -59,7 +59,7 @@ SpellsAnyElement (suc levels) kinds.Struct bytes = SpellsAnyStruct (SpellsAnyEle
 
 -- the value of a field whose kind has this number
 abbrev pub SpellsValue : ℕ → List ℕ → Type 0
-SpellsValue kind bytes = IsTrue (is_kind kind) × SpellsFieldValue (SpellsAnyElement 32) (kind_of kind) bytes
+SpellsValue kind bytes = IsTrue (is_kind kind) × SpellsFieldValue (SpellsAnyElement 32) (kind_numbered kind) bytes
 
 -- a spelling of some value in front of the rest
 abbrev pub Takes : (List ℕ → Type 0) → List ℕ → List ℕ → Type 0

@@ -16,8 +16,8 @@ abbrev pub rest_of : {A : Type 0} → Front A → Rest
 rest_of front = front >>= λ x. Ok x.1
 
 -- the kind of a number from 1 to 12
-abbrev pub kind_of : ℕ → Kind
-kind_of n =
+abbrev pub kind_numbered : ℕ → Kind
+kind_numbered n =
     if nat_le n 2 then kinds.Flag else
     if n == 3 then kinds.Byte else
     if nat_le n 6 then kinds.Whole else
@@ -33,7 +33,7 @@ each pass (suc n) bytes = pass bytes >>= each pass n
 
 -- `pass` says what lies behind an element of a kind
 abbrev pub list_passed : (Kind → List ℕ → Rest) → List ℕ → Rest
-list_passed pass bytes = list_at bytes >>= λ x. each (pass (kind_of x.0.kind)) x.0.count x.1
+list_passed pass bytes = list_at bytes >>= λ x. each (pass (kind_numbered x.0.kind)) x.0.count x.1
 
 abbrev pub entry_passed : (Kind → List ℕ → Rest) → Kind → Kind → List ℕ → Rest
 entry_passed pass key value bytes = pass key bytes >>= pass value
@@ -43,7 +43,7 @@ abbrev pub entries_passed : (Kind → List ℕ → Rest) → ℕ → List ℕ �
 entries_passed pass zero bytes = Ok bytes
 entries_passed pass (suc n) [] = Err Short
 entries_passed pass (suc n) (b ∷ bs) =
-    if is_kind (b / 16) && is_kind (b % 16) then each (entry_passed pass (kind_of (b / 16)) (kind_of (b % 16))) (suc n) bs
+    if is_kind (b / 16) && is_kind (b % 16) then each (entry_passed pass (kind_numbered (b / 16)) (kind_numbered (b % 16))) (suc n) bs
     else bad_at (b ∷ bs)
 
 abbrev pub map_passed : (Kind → List ℕ → Rest) → List ℕ → Rest
@@ -57,7 +57,7 @@ value_passed pass kind bytes = pass kind bytes
 -- the fields behind the field `last`; each takes at least a byte, so there are at most as many as bytes
 abbrev pub field_passed : (Kind → List ℕ → Rest) → (ℤ → List ℕ → Rest) → Field → List ℕ → Rest
 field_passed pass go_on End bytes = Ok bytes
-field_passed pass go_on (Next id kind) bytes = value_passed pass (kind_of kind) bytes >>= go_on id
+field_passed pass go_on (Next id kind) bytes = value_passed pass (kind_numbered kind) bytes >>= go_on id
 
 abbrev pub fields_passed : (Kind → List ℕ → Rest) → ℕ → ℤ → List ℕ → Rest
 fields_passed pass zero last bytes = Err Short
@@ -85,4 +85,4 @@ element_passed (suc levels) kinds.Struct bytes = struct_passed (element_passed l
 
 -- the value of a field whose kind has this number, with at most 32 levels
 abbrev pub passed_at : ℕ → List ℕ → Rest
-passed_at kind bytes = if is_kind kind then value_passed (element_passed 32) (kind_of kind) bytes else bad_at bytes
+passed_at kind bytes = if is_kind kind then value_passed (element_passed 32) (kind_numbered kind) bytes else bad_at bytes

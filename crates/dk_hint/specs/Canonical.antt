@@ -24,13 +24,13 @@ quoted text = (codes "\"" ++ percent_encode escaped_set text) ++ codes "\""
 abbrev pub along : List ℕ → List ℕ → List ℕ
 along path step = (path ++ codes "+") ++ step
 
-abbrev pub pair_of : List ℕ → List ℕ → List ℕ
-pair_of path value = (path ++ codes "=") ++ value
+abbrev pub canonical_pair : List ℕ → List ℕ → List ℕ
+canonical_pair path value = (path ++ codes "=") ++ value
 
 -- one that isn't whole has no text: a hint with such a number and a checksum isn't read
-abbrev pub whole_text : Option ℤ → List ℕ
-whole_text None = codes ""
-whole_text (Some n) = signed_decimal n
+abbrev pub whole_number_text : Option ℤ → List ℕ
+whole_number_text None = codes ""
+whole_number_text (Some n) = signed_decimal n
 
 abbrev pub flag_text : Bool → List ℕ
 flag_text flag = if flag then codes "true" else codes "false"
@@ -38,10 +38,10 @@ flag_text flag = if flag then codes "true" else codes "false"
 abbrev mutual
   -- the pairs of a value that stands at a path
   pub pairs_at : List ℕ → Data → List (List ℕ)
-  pairs_at path null = pair_of path (codes "null") ∷ []
-  pairs_at path (boolean flag) = pair_of path (flag_text flag) ∷ []
-  pairs_at path (number n) = pair_of path (whole_text (whole (number n))) ∷ []
-  pairs_at path (string s) = pair_of path (quoted s) ∷ []
+  pairs_at path null = canonical_pair path (codes "null") ∷ []
+  pairs_at path (boolean flag) = canonical_pair path (flag_text flag) ∷ []
+  pairs_at path (number n) = canonical_pair path (whole_number_text (whole (number n))) ∷ []
+  pairs_at path (string s) = canonical_pair path (quoted s) ∷ []
   pairs_at path (array ds) = pairs_from path 0 ds
   pairs_at path (object ms) = pairs_under path ms
 

@@ -4,7 +4,7 @@ ghost use Rattle.std.specs.Prelude.{◌≡◌, ◌++◌, ◌∷◌, [], OnOk, If
 ghost use Rattle.std.specs.Fmt.{signed_decimal};
 ghost use Rattle.serde_json.specs.View.{view, items_view, members_view};
 ghost use Rattle.dk_model.specs.Fields.{whole};
-ghost use Rattle.dk_hint.specs.Canonical.{along, flag_text, pair_of, pairs_at, pairs_from, pairs_under, quoted, whole_text};
+ghost use Rattle.dk_hint.specs.Canonical.{along, flag_text, canonical_pair, pairs_at, pairs_from, pairs_under, quoted, whole_number_text};
 
 use dk_model::Text;
 use percent_encoding::{AsciiSet, NON_ALPHANUMERIC, ascii_set, percent_encode};
@@ -46,7 +46,7 @@ fn along(alloc: Global, path: &str, step: &str) -> Result<String, AllocError>
 }
 
 fn add_pair(alloc: Global, list: &mut Vec<Text>, path: &str, value: &str) -> Result<(), AllocError>
-    ensures { OnOk result (list.new.items ≡ list.old.items ++ pair_of path.now value.now ∷ []) }
+    ensures { OnOk result (list.new.items ≡ list.old.items ++ canonical_pair path.now value.now ∷ []) }
 {
     let pair = Text::new(joined(alloc, path, "=", value)?);
     list.push(pair)?;
@@ -71,7 +71,7 @@ fn add_number(
     path: &str,
     value: &Value,
 ) -> Result<(), AllocError>
-    ensures { OnOk result (list.new.items ≡ list.old.items ++ pair_of path.now (whole_text (whole (view value.now))) ∷ []) }
+    ensures { OnOk result (list.new.items ≡ list.old.items ++ canonical_pair path.now (whole_number_text (whole (view value.now))) ∷ []) }
 {
     match value.as_i64() {
         Some(number) => {
@@ -83,14 +83,14 @@ fn add_number(
 }
 
 fn add_text(alloc: Global, list: &mut Vec<Text>, path: &str, text: &str) -> Result<(), AllocError>
-    ensures { OnOk result (list.new.items ≡ list.old.items ++ pair_of path.now (quoted text.now) ∷ []) }
+    ensures { OnOk result (list.new.items ≡ list.old.items ++ canonical_pair path.now (quoted text.now) ∷ []) }
 {
     let text = quoted(alloc, text)?;
     add_pair(alloc, list, path, text.as_str())
 }
 
 fn add_flag(alloc: Global, list: &mut Vec<Text>, path: &str, flag: bool) -> Result<(), AllocError>
-    ensures { OnOk result (list.new.items ≡ list.old.items ++ pair_of path.now (flag_text flag) ∷ []) }
+    ensures { OnOk result (list.new.items ≡ list.old.items ++ canonical_pair path.now (flag_text flag) ∷ []) }
 {
     if flag {
         add_pair(alloc, list, path, "true")

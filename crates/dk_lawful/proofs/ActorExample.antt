@@ -21,7 +21,7 @@ use Rattle.dk_lawful.specs.Lawful.{Lawful}
 use Rattle.dk_lawful.specs.Ids.{HasId, SaysId, StandsNowhere}
 use Rattle.dk_lawful.specs.Actors.{Snapshot, OwnStaged, OwnFits, TransactionFits, JobFits, HasDrawn, HasDrawnSidecars, IsDrawn, IsOpened, drawn, commit_by}
 use Rattle.dk_lawful.specs.Example.{first_actions, second_actions, example}
-use Rattle.dk_lawful.specs.ActorExample.{opened, begun_there, job_there, at_work, BothFit, signed_text, signed_actions, signing, signing_again, SignedTwiceIsLawful, SignedTwiceIsNotOnce, AddsAgain, AddsOne, own_text, own_actions, own_staged, opened_managed, with_own, staging_actors, OwnIsLawful, OwnFitsThere}
+use Rattle.dk_lawful.specs.ActorExample.{opened_snapshot, begun_there, job_there, at_work, BothFit, signed_text, signed_actions, signing, signing_again, SignedTwiceIsLawful, SignedTwiceIsNotOnce, AddsAgain, AddsOne, own_text, own_actions, own_staged, opened_managed, with_own, staging_actors, OwnIsLawful, OwnFitsThere}
 use Rattle.dk_lawful.proofs.OnTexts.{commits_on_literals, rules_on_literals}
 use Rattle.dk_lawful.proofs.Standing.{commit_place, made_here, held_once}
 use Rattle.dk_lawful.proofs.CheckpointExample.{made, quiet}
@@ -48,9 +48,9 @@ only_one : {A : Type 0} (x y : A) → Contains (x ∷ []) y → y ≡ x
 only_one x y (zero, within, is) = sym is
 only_one x y (suc k, within, is) = absurd (omega arith)
 
-is_opened : (horizon : ℤ) (s : Snapshot) → ◌≡◌ {A = Option Snapshot} (Some opened) (Some s) → IsOpened example horizon s
+is_opened : (horizon : ℤ) (s : Snapshot) → ◌≡◌ {A = Option Snapshot} (Some opened_snapshot) (Some s) → IsOpened example horizon s
 is_opened horizon s is =
-    let same : opened ≡ s = cc in
+    let same : opened_snapshot ≡ s = cc in
     subst (IsOpened example horizon) same (record { known = (let next = example_next in omega (arith, next)); agrees = agrees_itself (table_at example 1) horizon })
 
 none_is_some : {A : Type 0} (x : A) → ◌≡◌ {A = Option A} None (Some x) → ⊥
@@ -65,7 +65,7 @@ first_of_one x y (suc place) is = absurd (none_is_some y is)
 
 pub both_fit : BothFit
 both_fit base horizon from = record {
-  transactions = λ t among. subst (TransactionFits example horizon) (sym (only_one (begun_there base) t among)) (begun_fits example horizon (drawn base 0) (Some opened) (is_opened horizon) (nowhere _));
+  transactions = λ t among. subst (TransactionFits example horizon) (sym (only_one (begun_there base) t among)) (begun_fits example horizon (drawn base 0) (Some opened_snapshot) (is_opened horizon) (nowhere _));
   jobs = λ job among. subst (JobFits example horizon) (sym (only_one (job_there base) job among)) (record {
     published = example_published;
     agrees = agrees_itself (table_at example 1) horizon;

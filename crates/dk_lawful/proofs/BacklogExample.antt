@@ -16,7 +16,7 @@ use Rattle.dk_lawful.specs.Permits.{MayMake, MayDelete, RatifiesCommit, Backfill
 use Rattle.dk_lawful.specs.Lawful.{Lawful}
 use Rattle.dk_lawful.specs.Example.{IsForbidden}
 use Rattle.dk_lawful.specs.ManagedExample.{founding_text, founding_actions, adding_text, adding_actions, staged_twice, catalogued}
-use Rattle.dk_lawful.specs.BacklogExample.{next_text, next_actions, next_staged, both_ratified, one_published, both_published, mark_text_2, whole_text, whole_actions, covered, BacklogIsLawful}
+use Rattle.dk_lawful.specs.BacklogExample.{next_text, next_actions, next_staged, both_ratified, one_published, both_published, mark_text_2, backlog_text, whole_actions, covered, BacklogIsLawful}
 use Rattle.dk_lawful.proofs.OnTexts.{commits_on_literals, rules_on_literals}
 use Rattle.dk_lawful.proofs.Standing.{commit_place, found_made, kept_made, made_here, held_at, held_ratified, was_ratified, held_forgotten}
 use Rattle.dk_lawful.proofs.Example.{broken_after}
@@ -30,7 +30,7 @@ next_means : commit_of next_text ≡ Some next_actions
 unfolding commits_on_literals info_of next_text
 next_means = refl
 
-whole_means : commit_of whole_text ≡ Some whole_actions
+whole_means : commit_of backlog_text ≡ Some whole_actions
 unfolding commits_on_literals info_of checkpoint_meta_of mark_text_2 founding_text adding_text next_text
 whole_means = refl
 
@@ -202,19 +202,19 @@ last_holds = made_here one_published (commit_path 2) next_text (pos 6) (Commit_a
 
 covered_is_lawful : (horizon : ℤ) → Lawful covered horizon
 covered_is_lawful horizon =
-    made both_published (V2 2 9 true) whole_text (pos 7) horizon (both_published_is_lawful horizon) top_is none_at_top
-    (makes_json both_published 2 9 whole_text whole_actions horizon (2, (omega arith), (next_text, last_holds)) whole_means refl refl (ap (λ h. fold (take 3 (commits_of h))) (sym published_history)))
+    made both_published (V2 2 9 true) backlog_text (pos 7) horizon (both_published_is_lawful horizon) top_is none_at_top
+    (makes_json both_published 2 9 backlog_text whole_actions horizon (2, (omega arith), (next_text, last_holds)) whole_means refl refl (ap (λ h. fold (take 3 (commits_of h))) (sym published_history)))
 
-top_holds : Holds covered (V2 2 9 true) whole_text
-top_holds = made_here both_published (place_path (V2 2 9 true)) whole_text (pos 7) (V2 2 9 true) (place_of_path (V2 2 9 true) top_is)
+top_holds : Holds covered (V2 2 9 true) backlog_text
+top_holds = made_here both_published (place_path (V2 2 9 true)) backlog_text (pos 7) (V2 2 9 true) (place_of_path (V2 2 9 true) top_is)
 
 still_last : AtMostPublished covered 2
-still_last = (2, (omega arith), (next_text, kept_made both_published (place_path (V2 2 9 true)) whole_text (pos 7) (Commit_at 2) next_text (free_at both_published (V2 2 9 true) top_is none_at_top) last_holds))
+still_last = (2, (omega arith), (next_text, kept_made both_published (place_path (V2 2 9 true)) backlog_text (pos 7) (Commit_at 2) next_text (free_at both_published (V2 2 9 true) top_is none_at_top) last_holds))
 
 pub backlog_is_lawful : BacklogIsLawful
 backlog_is_lawful horizon =
     gone (Forgotten 2 ∷ covered) (Commit_at 1) horizon (still_last, covered_is_lawful horizon) (omega arith)
-    ((2, (omega arith), inr (inl (9, (true, (whole_text, held_forgotten covered 2 (V2 2 9 true) whole_text top_holds))))), refl)
+    ((2, (omega arith), inr (inl (9, (true, (backlog_text, held_forgotten covered 2 (V2 2 9 true) backlog_text top_holds))))), refl)
 
 -- a backfill of a version whose commit before isn't published
 pub backfill_ahead : IsForbidden both_ratified (Made (commit_path 2) next_text (pos 5))

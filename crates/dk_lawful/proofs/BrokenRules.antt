@@ -11,7 +11,7 @@ use Rattle.dk_lawful.specs.History.{by_file, history}
 use Rattle.dk_lawful.specs.Permits.{AddsCommit}
 use Rattle.dk_lawful.specs.Lawful.{Lawful}
 use Rattle.dk_lawful.specs.Example.{example, IsForbidden}
-use Rattle.dk_lawful.specs.BrokenRules.{informing_text, informing_actions, sidecar_text, sidecar_actions, applying_text, applying_actions, settling_text, settling_actions, appending_text, appending_actions, removing_text, removing_actions, appended, vector_text, vector_actions, untimed_text, untimed_actions}
+use Rattle.dk_lawful.specs.BrokenRules.{informing_text, informing_actions, sidecar_text, sidecar_actions, applying_text, applying_actions, settling_text, settling_actions, appending_text, appending_actions, removing_text, removing_actions, appending_log, vector_text, vector_actions, untimed_text, untimed_actions}
 use Rattle.dk_lawful.proofs.OnTexts.{commits_on_literals, rules_on_literals}
 use Rattle.dk_lawful.proofs.Example.{adds, permitted, may_add, broken, breaks, history_one}
 
@@ -73,17 +73,17 @@ appended_adds : AddsCommit [] 0 appending_text
 unfolding rules_on_literals commits_on_literals
 appended_adds = adds [] [] 0 appending_text appending_actions refl refl refl refl appending_means
 
-pub appended_is_lawful : (horizon : ℤ) → Lawful appended horizon
+pub appended_is_lawful : (horizon : ℤ) → Lawful appending_log horizon
 appended_is_lawful horizon = (permitted [] horizon 0 appending_text (pos 0) (omega arith) tt appended_adds, tt)
 
-appended_history : history appended ≡ by_file appending_actions ∷ []
+appended_history : history appending_log ≡ by_file appending_actions ∷ []
 appended_history = history_one appending_text appending_actions appending_means
 
-pub rows_removed : IsForbidden appended (Made (commit_path 1) removing_text (pos 1))
+pub rows_removed : IsForbidden appending_log (Made (commit_path 1) removing_text (pos 1))
 unfolding rules_on_literals commits_on_literals
 rows_removed horizon may =
-    broken appended (by_file appending_actions ∷ []) 1 7 removing_text removing_actions appended_history refl removing_means
-    (may_add appended horizon 1 removing_text (pos 1) (omega arith) refl may)
+    broken appending_log (by_file appending_actions ∷ []) 1 7 removing_text removing_actions appended_history refl removing_means
+    (may_add appending_log horizon 1 removing_text (pos 1) (omega arith) refl may)
 
 -- ---- rules on deletion vectors and on managed tables
 

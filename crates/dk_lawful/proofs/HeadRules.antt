@@ -13,7 +13,7 @@ use Rattle.dk_features.specs.InForce.{has_feature}
 use Rattle.dk_model.specs.Changes.{protocol_in}
 use Rattle.dk_model.specs.Rows.{removes_rows}
 use Rattle.dk_lawful.specs.Rules.{is_protocol_kept, is_append_only, is_domain, keeps_heads, keeps_kinds, keeps_paths_apart, keeps_names_apart, keeps_times_by, begins_unenabled, stays_managed, keeps_adds}
-use Rattle.dk_lawful.specs.Written.{is_written}
+use Rattle.dk_lawful.specs.Written.{is_table_written}
 use Rattle.dk_lawful.specs.Timestamps.{has_timestamps, said_first}
 use Rattle.dk_lawful.specs.Laws.{RulesByHeads, AgreeingHaveSameRules}
 
@@ -35,7 +35,7 @@ broken_by last version actions p m p_after m_after =
     else if not (keeps_paths_apart actions) then Some 3
     else if not (keeps_names_apart actions) then Some 4
     else if not (list_all (is_protocol_kept p) (filter_map protocol_in actions)) then Some 5
-    else if not (is_written p_after m_after) then Some 6
+    else if not (is_table_written p_after m_after) then Some 6
     else if not (not (is_append_only p m && list_any removes_rows actions)) then Some 7
     else if not (not (list_any is_domain actions) || has_feature p_after domain_metadata) then Some 8
     else if not (keeps_times_by (has_timestamps p m) (has_timestamps p_after m_after) last version m m_after (said_first actions) && begins_unenabled version m_after) then Some 9

@@ -12,8 +12,8 @@ use Rattle.dk_lawful.specs.declared.segment.Checkpoints.{Checkpoints}
 use Rattle.dk_lawful.specs.declared.segment.Checkpoints.TheVariants.{No, Newest, AtMost}
 use Rattle.dk_lawful.specs.Present.{Present, Available}
 use Rattle.dk_lawful.specs.Lawful.{Lawful}
-use Rattle.dk_lawful.specs.Checkpoints.{IsCheckpointOf, paths_of, AllStand}
-use Rattle.dk_lawful.specs.Segments.{is_among, commit_place, greatest, least, has_parts, complete_at, is_allowed, base_version, parts_at, id_at, classic_ref, parts_ref, v2_ref, by_parts, checkpoint_at, base_of, furthest, gap_to, version_of, begins_at, steps_of}
+use Rattle.dk_lawful.specs.Checkpoints.{IsCheckpointOf, object_paths, AllStand}
+use Rattle.dk_lawful.specs.Segments.{is_among, commit_place, greatest, least, has_parts, complete_at, is_allowed, base_version, parts_at, checkpoint_id_at, classic_ref, parts_ref, v2_ref, by_parts, checkpoint_at, base_of, furthest, gap_to, version_of, begins_at, steps_of}
 use Rattle.dk_lawful.specs.Openable.{standing_places, HasSidecars, BaseStands, EachFromFloorIsKept}
 use Rattle.dk_lawful.proofs.CommitsThere.{available_there}
 use Rattle.dk_lawful.proofs.Openable.{of_if, of_filter_map, greatest_in, chosen_version, begins_where, no_gap_to, some_of_step, goes_on, complete_is_in}
@@ -43,7 +43,7 @@ module _ (events : List Told) where
       ]
 
   abbrev StandsAt : CheckpointRef → ℕ → Type 0
-  StandsAt checkpoint version = IsCheckpointOf checkpoint version × AllStand events (paths_of checkpoint)
+  StandsAt checkpoint version = IsCheckpointOf checkpoint version × AllStand events (object_paths checkpoint)
 
   classic_stands : (version : ℕ) → is_among there (Classic version) ≡ true → StandsAt (classic_ref version) version
   classic_stands version is =
@@ -77,15 +77,15 @@ module _ (events : List Told) where
       by (Staged v id) stands at = none_at at
       by (Other path) stands at = none_at at
 
-  v2_stands : (version id : ℕ) → least (filter_map (id_at version) there) ≡ Some id → StandsAt (v2_ref version id (is_among there (V2 version id true))) version
+  v2_stands : (version id : ℕ) → least (filter_map (checkpoint_id_at version) there) ≡ Some id → StandsAt (v2_ref version id (is_among there (V2 version id true))) version
   v2_stands version id is =
-      let (place, listed, at) = of_filter_map (id_at version) there id (least_in (filter_map (id_at version) there) id is) in
+      let (place, listed, at) = of_filter_map (checkpoint_id_at version) there id (least_in (filter_map (checkpoint_id_at version) there) id is) in
       by_json (is_among there (V2 version id true)) refl (by place listed at)
     where
       none_at : {A : Type 0} → ◌≡◌ {A = Option ℕ} None (Some id) → A
       none_at is = absurd (let no : ◌≡◌ {A = Option ℕ} None (Some id) = is in cc)
 
-      by : (place : Place) → In there place → id_at version place ≡ Some id → (json : Bool) × In there (V2 version id json)
+      by : (place : Place) → In there place → checkpoint_id_at version place ≡ Some id → (json : Bool) × In there (V2 version id json)
       by (V2 v i json) listed at =
           let (same, is_id) = of_if (v == version) i id at in (json, subst (In there) (ap₂ (λ m n. V2 m n json) (eqb-true v version same) is_id) listed)
       by (Commit_at v) listed at = none_at at
@@ -107,13 +107,13 @@ module _ (events : List Told) where
       by_json false is (true, listed) = absurd (true≢false (sym (in_is_among there (V2 version id true) listed) ∙ is))
 
   chosen_stands : (version : ℕ) (checkpoint : CheckpointRef) → checkpoint_at there version ≡ Some checkpoint → StandsAt checkpoint version
-  chosen_stands version checkpoint is = by (is_among there (Classic version)) refl (greatest (filter_map (parts_at (is_among there) version) there)) refl (least (filter_map (id_at version) there)) refl is
+  chosen_stands version checkpoint is = by (is_among there (Classic version)) refl (greatest (filter_map (parts_at (is_among there) version) there)) refl (least (filter_map (checkpoint_id_at version) there)) refl is
     where
       same_ref : (found : CheckpointRef) → Some found ≡ Some checkpoint → StandsAt found version → StandsAt checkpoint version
       same_ref found same stands = let is_same : found ≡ checkpoint = cc in subst (λ (c : CheckpointRef). StandsAt c version) is_same stands
 
       by : (classic : Bool) → is_among there (Classic version) ≡ classic → (parts : Option ℕ) → greatest (filter_map (parts_at (is_among there) version) there) ≡ parts
-          → (id : Option ℕ) → least (filter_map (id_at version) there) ≡ id → (if classic then Some (classic_ref version) else by_parts (is_among there) version parts id) ≡ Some checkpoint
+          → (id : Option ℕ) → least (filter_map (checkpoint_id_at version) there) ≡ id → (if classic then Some (classic_ref version) else by_parts (is_among there) version parts id) ≡ Some checkpoint
           → StandsAt checkpoint version
       by true here parts most id first is = same_ref (classic_ref version) is (classic_stands version here)
       by false here (Some parts) most id first is = same_ref (parts_ref version parts) is (parts_stand_at version parts most)
@@ -129,7 +129,7 @@ pub base_stands : BaseStands
 base_stands events allowed asked checkpoint is = by (base_version (standing_places events) allowed asked) refl is
   where
     by : (found : Option ℕ) → base_version (standing_places events) allowed asked ≡ found → option_and_then (checkpoint_at (standing_places events)) found ≡ Some checkpoint
-        → IsCheckpointOf checkpoint (version_of checkpoint) × (version_of checkpoint ≤ asked) × AllStand events (paths_of checkpoint)
+        → IsCheckpointOf checkpoint (version_of checkpoint) × (version_of checkpoint ≤ asked) × AllStand events (object_paths checkpoint)
     by None at is = absurd (let no : ◌≡◌ {A = Option CheckpointRef} None (Some checkpoint) = is in cc)
     by (Some v) at is =
         let of_version = chosen_version (standing_places events) v checkpoint is in

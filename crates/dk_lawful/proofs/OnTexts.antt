@@ -12,12 +12,12 @@ use Rattle.dk_features.specs.InForce.{has_feature}
 use Rattle.dk_features.specs.Forms.{has_form, keeps_features}
 use Rattle.dk_lawful.specs.Rules.{is_append_only}
 use Rattle.dk_lawful.specs.Timestamps.{has_timestamps}
-use Rattle.dk_lawful.specs.Written.{is_written}
+use Rattle.dk_lawful.specs.Written.{is_table_written}
 
 unfoldable pub commits_on_literals : ⊤
 unfolding serde_json_on_literals chars is_utf8 all_keys add_of line_means format_of metadata_of protocol_of remove_of
 commits_on_literals = tt
 
 unfoldable pub rules_on_literals : ⊤
-unfolding has_feature has_form keeps_features is_written is_append_only has_timestamps
+unfolding has_feature has_form keeps_features is_table_written is_append_only has_timestamps
 rules_on_literals = tt

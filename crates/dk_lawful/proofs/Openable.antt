@@ -15,7 +15,7 @@ use Rattle.dk_lawful.specs.declared.segment.Step.TheVariants.{Commit}
 use Rattle.dk_lawful.specs.Present.{Complete}
 use Rattle.dk_lawful.specs.Floor.{IsBelow}
 use Rattle.dk_lawful.specs.declared.segment.CheckpointRef.{CheckpointRef}
-use Rattle.dk_lawful.specs.Segments.{is_among, commit_place, before_later, steps_from, gap_from, greater, greatest, lesser, least, has_parts, complete_at, is_allowed, parts_at, id_at, classic_ref, parts_ref, v2_ref, by_parts, checkpoint_at, base_of, reached_by, furthest, compacted_step, commit_step, step_at, after_step, before_next, walked_to, or_next, gap_to, version_of, begins_at, steps_of, segment_after}
+use Rattle.dk_lawful.specs.Segments.{is_among, commit_place, before_later, steps_from, gap_from, greater, greatest, lesser, least, has_parts, complete_at, is_allowed, parts_at, checkpoint_id_at, classic_ref, parts_ref, v2_ref, by_parts, checkpoint_at, base_of, reached_by, furthest, compacted_step, commit_step, step_at, after_step, before_next, walked_to, or_next, gap_to, version_of, begins_at, steps_of, segment_after}
 use Rattle.dk_lawful.specs.Openable.{standing_places, PlainIsByCommits, GoesBelow, CleansBelow, CleanupLeavesFloor, IsNeedless, OthersLeaveFloor}
 use Rattle.dk_lawful.proofs.SoundDeleted.{IsApart, Complete_deleted}
 use Rattle.dk_lawful.proofs.SoundOthers.{Complete_same, forgotten_same}
@@ -117,7 +117,7 @@ module _ (places : List Place) where
   most_parts version = greatest (filter_map (parts_at present version) places)
 
   abbrev first_id : ℕ → Option ℕ
-  first_id version = least (filter_map (id_at version) places)
+  first_id version = least (filter_map (checkpoint_id_at version) places)
 
   -- a complete checkpoint that begins at a listed place is chosen at its version, or another of this version is
   chosen_at : (place : Place) (version : ℕ) → In places place → complete_at present place ≡ Some version → (checkpoint : CheckpointRef) × (checkpoint_at places version ≡ Some checkpoint)
@@ -137,7 +137,7 @@ module _ (places : List Place) where
       by_place (Classic v) at is = inl (let same : v ≡ version = cc in ap (λ (n : ℕ). present (Classic n)) (sym same) ∙ in_is_among places (Classic v) at)
       by_place (V2 v id json) at is =
           let same : v ≡ version = cc in
-          let (found, is_least) = least_some (filter_map (id_at version) places) id (in_filter_map (id_at version) places (V2 v id json) id at (if_true (v == version) id (eq-eqb v version same))) in
+          let (found, is_least) = least_some (filter_map (checkpoint_id_at version) places) id (in_filter_map (checkpoint_id_at version) places (V2 v id json) id at (if_true (v == version) id (eq-eqb v version same))) in
           inr (some_id (most_parts version) (first_id version) (ap (λ (o : Option ℕ). is_some o) is_least))
       by_place (Part v part parts) at is =
           let (tests, same) = of_if ((part == 1) && has_parts present v parts parts) v version is in
@@ -160,7 +160,7 @@ module _ (places : List Place) where
 
   -- it is of this version
   pub chosen_version : (version : ℕ) (checkpoint : CheckpointRef) → checkpoint_at places version ≡ Some checkpoint → version_of checkpoint ≡ version
-  chosen_version version checkpoint is = by (present (Classic version)) (greatest (filter_map (parts_at present version) places)) (least (filter_map (id_at version) places)) is
+  chosen_version version checkpoint is = by (present (Classic version)) (greatest (filter_map (parts_at present version) places)) (least (filter_map (checkpoint_id_at version) places)) is
     where
       at : (found : CheckpointRef) → version_of found ≡ version → Some found ≡ Some checkpoint → version_of checkpoint ≡ version
       at found of_version same = let is_same : found ≡ checkpoint = cc in ap version_of (sym is_same) ∙ of_version

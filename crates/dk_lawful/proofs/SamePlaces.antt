@@ -9,7 +9,7 @@ use Rattle.dk_lawful.specs.declared.segment.Checkpoints.{Checkpoints}
 use Rattle.dk_lawful.specs.declared.segment.Choice.{Choice}
 use Rattle.dk_lawful.specs.declared.segment.Segment.{Segment}
 use Rattle.dk_lawful.specs.declared.segment.Step.{Step}
-use Rattle.dk_lawful.specs.Segments.{is_among, id_named, published_at, staged_at, preferred, commit_place, greatest, lesser, least, has_parts, complete_at, is_allowed, base_version, parts_at, id_at, classic_ref, v2_ref, by_id, by_parts, checkpoint_at, base_of, reached_by, furthest, step_at, gap_to, begins_at, walked_to, steps_of}
+use Rattle.dk_lawful.specs.Segments.{is_among, id_named, published_at, staged_at, preferred, commit_place, greatest, lesser, least, has_parts, complete_at, is_allowed, base_version, parts_at, checkpoint_id_at, classic_ref, v2_ref, by_id, by_parts, checkpoint_at, base_of, reached_by, furthest, step_at, gap_to, begins_at, walked_to, steps_of}
 use Rattle.dk_lawful.specs.Openable.{IsReadFrom, SamePlacesReadAlike}
 use Rattle.dk_lawful.proofs.StandingPlaces.{In, in_is_among, among_is_in, in_filter, of_filter}
 use Rattle.dk_lawful.proofs.Openable.{in_filter_map, of_filter_map, greatest_in, greatest_most}
@@ -136,7 +136,7 @@ reads_parts present v (Sidecar name) n is = none_some n is
 reads_parts present v (Staged version id) n is = tt
 reads_parts present v (Other path) n is = none_some n is
 
-reads_id : (v : ℕ) (place : Place) (n : ℕ) → id_at v place ≡ Some n → IsReadFrom place
+reads_id : (v : ℕ) (place : Place) (n : ℕ) → checkpoint_id_at v place ≡ Some n → IsReadFrom place
 reads_id v (Part version part parts) n is = tt
 reads_id v (Classic version) n is = tt
 reads_id v (V2 version id json) n is = tt
@@ -178,8 +178,8 @@ module _ (places others : List Place) (same : (place : Place) → IsReadFrom pla
       (moved places others same (parts_at (is_among places) version) (parts_at (is_among others) version) (parts_at_alike places others same version) (reads_parts (is_among places) version))
       (moved others places back (parts_at (is_among others) version) (parts_at (is_among places) version) (parts_at_alike others places back version) (reads_parts (is_among others) version))
 
-  id_alike : (version : ℕ) → least (filter_map (id_at version) places) ≡ least (filter_map (id_at version) others)
-  id_alike version = least_alike _ _ (moved places others same (id_at version) (id_at version) (λ place. refl) (reads_id version)) (moved others places back (id_at version) (id_at version) (λ place. refl) (reads_id version))
+  id_alike : (version : ℕ) → least (filter_map (checkpoint_id_at version) places) ≡ least (filter_map (checkpoint_id_at version) others)
+  id_alike version = least_alike _ _ (moved places others same (checkpoint_id_at version) (checkpoint_id_at version) (λ place. refl) (reads_id version)) (moved others places back (checkpoint_id_at version) (checkpoint_id_at version) (λ place. refl) (reads_id version))
 
   reach_alike : (allowed : Bool) (asked version : ℕ) → furthest places allowed asked version ≡ furthest others allowed asked version
   reach_alike allowed asked version = ap (λ (o : Option ℕ). if allowed then o else None)
@@ -197,7 +197,7 @@ module _ (places others : List Place) (same : (place : Place) → IsReadFrom pla
   checkpoint_alike : (version : ℕ) → checkpoint_at places version ≡ checkpoint_at others version
   checkpoint_alike version =
       ap₂ (λ (b : Bool) (rest : Option CheckpointRef). if b then Some (classic_ref version) else rest) (same (Classic version) tt)
-      (by_parts_alike version (greatest (filter_map (parts_at (is_among places) version) places)) (least (filter_map (id_at version) places))
+      (by_parts_alike version (greatest (filter_map (parts_at (is_among places) version) places)) (least (filter_map (checkpoint_id_at version) places))
       ∙ ap₂ (by_parts (is_among others) version) (most_alike version) (id_alike version))
 
   base_alike : (allowed : Checkpoints) (asked : ℕ) → base_of places allowed asked ≡ base_of others allowed asked

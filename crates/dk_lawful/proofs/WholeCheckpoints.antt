@@ -14,7 +14,7 @@ use Rattle.dk_lawful.specs.History.{history, commits_of, next_version, table_at}
 use Rattle.dk_lawful.specs.Agree.{Stands}
 use Rattle.dk_lawful.specs.Shares.{files_up_to, files_of}
 use Rattle.dk_lawful.specs.Lawful.{Lawful}
-use Rattle.dk_lawful.specs.Checkpoints.{Top, HasTop, HasV2Top, IsShare, SidesMean, Among, ObjectMeans, PartsMean, ObjectsMean, ArePartPaths, IsCheckpointOf, paths_of, AllStand}
+use Rattle.dk_lawful.specs.Checkpoints.{Top, HasTop, HasV2Top, IsShare, SidesMean, Among, ObjectMeans, PartsMean, ObjectsMean, ArePartPaths, IsCheckpointOf, object_paths, AllStand}
 use Rattle.dk_lawful.specs.Segments.{part_paths, parts_ref}
 use Rattle.dk_lawful.specs.CheckpointLaws.{HasAllParts, CheckpointsStand, PartsStand, ReadCheckpointsStand}
 use Rattle.dk_lawful.proofs.Joined.{IsApart, apart_fold, UpTo, first_part, more_parts, goes_up, all_parts}
@@ -162,7 +162,7 @@ paths_stand events version parts (suc count) all =
     )
 
 pub parts_ref_stands : (events : List Told) (version parts : ℕ) → HasAllParts events version parts
-    → IsCheckpointOf (parts_ref version parts) version × AllStand events (paths_of (parts_ref version parts))
+    → IsCheckpointOf (parts_ref version parts) version × AllStand events (object_paths (parts_ref version parts))
 parts_ref_stands events version parts (some, all) =
     let both = paths_stand events version parts parts all in ((refl, some, all_of_them version parts 0 (part_paths version parts parts) both.0), both.1)
 
@@ -177,13 +177,13 @@ each_stands events [] top none = tt
 each_stands events (path ∷ paths) top (own, rest, (bytes, has, means), more, all, names) = ((bytes, has), each_stands events paths rest more)
 
 -- what means something stands
-pub objects_stand : (events : List Told) (checkpoint : CheckpointRef) (top : Top) → ObjectsMean events checkpoint top → AllStand events (paths_of checkpoint)
+pub objects_stand : (events : List Told) (checkpoint : CheckpointRef) (top : Top) → ObjectsMean events checkpoint top → AllStand events (object_paths checkpoint)
 objects_stand events (refs.Classic version path) top (bytes, has, means) = ((bytes, has), tt)
 objects_stand events (refs.Parts version parts paths) top means = each_stands events paths top means
 objects_stand events (refs.V2 version path json) top (bytes, has, means) = ((bytes, has), tt)
 
 within : (events : List Told) (horizon : ℤ) → Lawful events horizon → (checkpoint : CheckpointRef) (version : ℕ) → IsCheckpointOf checkpoint version
-    → AllStand events (paths_of checkpoint) → version < next_version events
+    → AllStand events (object_paths checkpoint) → version < next_version events
 within events horizon lawful (refs.Classic v path) version (same, at) ((bytes, has), none) =
     ((lawful_is_sound events horizon lawful).tops (Classic version) version refl bytes (record { path = path; is_place = at; has_bytes = has })).within
 within events horizon lawful (refs.V2 v path json) version (same, (id, at)) ((bytes, has), none) =

@@ -10,16 +10,16 @@ use Rattle.dk_lawful.specs.Lawful.{Lawful}
 use Rattle.dk_lawful.specs.Ids.{StandsOnce, AddOnce, AddNone}
 use Rattle.dk_lawful.specs.Actors.{Snapshot, Transaction, Job, Actors, drawn, begun, Fits}
 use Rattle.dk_lawful.specs.Example.{example}
-use Rattle.dk_lawful.specs.ManagedExample.{added, founded}
+use Rattle.dk_lawful.specs.ManagedExample.{plain_file, founded}
 
 -- ---- a transaction and a job
 
-abbrev pub opened : Snapshot
-opened = record { version = 1; state = table_at example 1 }
+abbrev pub opened_snapshot : Snapshot
+opened_snapshot = record { version = 1; state = table_at example 1 }
 
 -- a transaction that began at the last version, and a checkpoint of it that has recorded one sidecar
 abbrev pub begun_there : ℕ → Transaction
-begun_there base = begun (drawn base 0) (Some opened)
+begun_there base = begun (drawn base 0) (Some opened_snapshot)
 
 abbrev pub job_there : ℕ → Job
 job_there base = record { version = 1; state = table_at example 1; cut = pos 0; count = 2; sidecars = sidecar_name (drawn base 1) ∷ [] }
@@ -67,7 +67,7 @@ own_text =
     codes "{\"commitInfo\":{\"inCommitTimestamp\":6,\"txnId\":\"00000000-0000-0000-0000-000000000007\"}}\n{\"add\":{\"modificationTime\":5,\"path\":\"a\",\"size\":1}}\n"
 
 abbrev pub own_actions : List Action
-own_actions = action.Info (record { in_commit_timestamp = Some (pos 6); txn_id = Some (codes "00000000-0000-0000-0000-000000000007") }) ∷ added (codes "a") ∷ []
+own_actions = action.Info (record { in_commit_timestamp = Some (pos 6); txn_id = Some (codes "00000000-0000-0000-0000-000000000007") }) ∷ plain_file (codes "a") ∷ []
 
 abbrev pub own_staged : List Told
 own_staged = Made (place_path (Staged 1 8)) own_text (pos 1) ∷ founded
@@ -77,7 +77,7 @@ opened_managed = record { version = 0; state = table_at founded 0 }
 
 -- it drew its id and that of its staged commit, which it made at the moment 6
 abbrev pub with_own : Transaction
-with_own = record { id = 7; snapshot = Some opened_managed; put = added (codes "a") ∷ []; own = Some (record { version = 1; uuid = 8 }); answered = None }
+with_own = record { id = 7; snapshot = Some opened_managed; put = plain_file (codes "a") ∷ []; own = Some (record { version = 1; uuid = 8 }); answered = None }
 
 abbrev pub staging_actors : Actors
 staging_actors = record { base = 7; count = 2; transactions = with_own ∷ []; jobs = [] }

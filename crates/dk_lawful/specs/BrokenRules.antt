@@ -52,8 +52,8 @@ removing_text = codes "{\"remove\":{\"deletionTimestamp\":5,\"path\":\"a\"}}\n"
 abbrev pub removing_actions : List Action
 removing_actions = action.Remove (record { path = codes "a"; deletion_timestamp = pos 5; data_change = true }) ∷ []
 
-abbrev pub appended : List Told
-appended = Made (commit_path 0) appending_text (pos 0) ∷ []
+abbrev pub appending_log : List Told
+appending_log = Made (commit_path 0) appending_text (pos 0) ∷ []
 
 -- a file with a deletion vector
 unfoldable pub vector_text : List ℕ

@@ -7,7 +7,7 @@ use Rattle.dk_lawful.specs.declared.segment.CheckpointRef.{CheckpointRef}
 use Rattle.dk_lawful.specs.Present.{Present}
 use Rattle.dk_lawful.specs.History.{next_version, table_at}
 use Rattle.dk_lawful.specs.Agree.{Stands}
-use Rattle.dk_lawful.specs.Checkpoints.{CheckpointMeans, IsCheckpointOf, paths_of, AllStand}
+use Rattle.dk_lawful.specs.Checkpoints.{CheckpointMeans, IsCheckpointOf, object_paths, AllStand}
 use Rattle.dk_lawful.specs.Segments.{parts_ref}
 use Rattle.dk_lawful.specs.Lawful.{Lawful}
 
@@ -22,7 +22,7 @@ StandsFor events horizon checkpoint version = (actions : List Action) × Checkpo
 -- A checkpoint whose objects stand stands for the state at its version: as one object with its sidecars, or as parts.
 abbrev pub CheckpointsStand : Type 0
 CheckpointsStand = (events : List Told) (horizon : ℤ) → Lawful events horizon → (checkpoint : CheckpointRef) (version : ℕ) → IsCheckpointOf checkpoint version
-    → AllStand events (paths_of checkpoint) → StandsFor events horizon checkpoint version
+    → AllStand events (object_paths checkpoint) → StandsFor events horizon checkpoint version
 
 -- Parts that make a whole do, whichever writers made them, at whatever moments.
 abbrev pub PartsStand : Type 0

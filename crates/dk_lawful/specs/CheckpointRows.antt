@@ -2,7 +2,7 @@
 use Rattle.std.specs.Prelude.{ℕ, List, [], ◌++◌, Bool, true, false, ◌&&◌, Option, Some, option_map, option_and_then, if◌then◌else◌, codes}
 use Rattle.std.specs.Option.{option_to_list}
 use Rattle.std.specs.Str.{bytes_eq}
-use Rattle.dk_pqmodel.specs.Shape.{Field, Fields, no_fields, one_field, root, name_in, shape_in, fields_at}
+use Rattle.dk_pqmodel.specs.Shape.{Field, Fields, no_fields, one_field, root, field_name, shape_in, fields_at}
 use Rattle.dk_pqmodel.specs.Datum.{Datum, null, atom, group, list, Cells, no_cells, one_cell}
 use Rattle.dk_pqmodel.specs.Object.{data_of}
 use Rattle.dk_model.specs.declared.action.Action.{Action}
@@ -30,7 +30,7 @@ abbrev pub is_vector_name : List ℕ → Bool
 is_vector_name name = bytes_eq name (codes "deletionVector")
 
 abbrev pub counted_cell : Field → Datum → Datum
-counted_cell f c = if is_vector_name (name_in f) && is_empty c then null else c
+counted_cell f c = if is_vector_name (field_name f) && is_empty c then null else c
 
 -- the cells of a group, each by its field
 abbrev pub each_by : (Field → Datum → Datum) → Fields → Cells → Cells

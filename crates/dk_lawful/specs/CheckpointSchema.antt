@@ -7,86 +7,86 @@ use Rattle.dk_model.specs.declared.action_key.ActionKey.TheVariants as key
 use Rattle.dk_model.specs.ActionKeys.{name_of}
 
 -- each field may be null, but for the key of a map
-abbrev pub optional : List ℕ → Shape → Field
-optional name s = field name true s
+abbrev pub nullable_field : List ℕ → Shape → Field
+nullable_field name s = field name true s
 
 abbrev pub fields : List Field → Fields
 fields [] = no_fields
 fields (f ∷ fs) = one_field f (fields fs)
 
-abbrev pub texts : Shape
-texts = list (optional [] (leaf chars))
+abbrev pub list_of_texts : Shape
+list_of_texts = list (nullable_field [] (leaf chars))
 
 abbrev pub text_map : Shape
-text_map = map_of (optional [] (leaf chars))
+text_map = map_of (nullable_field [] (leaf chars))
 
 -- ---- the groups
 
 unfoldable pub txn_group : List Field
-txn_group = optional (codes "appId") (leaf chars) ∷ optional (codes "version") (leaf int64) ∷ optional (codes "lastUpdated") (leaf int64) ∷ []
+txn_group = nullable_field (codes "appId") (leaf chars) ∷ nullable_field (codes "version") (leaf int64) ∷ nullable_field (codes "lastUpdated") (leaf int64) ∷ []
 
 unfoldable pub add_group : List Field
 add_group =
-    optional (codes "path") (leaf chars)
-    ∷ optional (codes "partitionValues") text_map
-    ∷ optional (codes "size") (leaf int64)
-    ∷ optional (codes "modificationTime") (leaf int64)
-    ∷ optional (codes "dataChange") (leaf flag)
-    ∷ optional (codes "stats") (leaf chars)
-    ∷ optional (codes "tags") text_map
-    ∷ optional (codes "baseRowId") (leaf int64)
-    ∷ optional (codes "defaultRowCommitVersion") (leaf int64)
-    ∷ optional (codes "clusteringProvider") (leaf chars)
+    nullable_field (codes "path") (leaf chars)
+    ∷ nullable_field (codes "partitionValues") text_map
+    ∷ nullable_field (codes "size") (leaf int64)
+    ∷ nullable_field (codes "modificationTime") (leaf int64)
+    ∷ nullable_field (codes "dataChange") (leaf flag)
+    ∷ nullable_field (codes "stats") (leaf chars)
+    ∷ nullable_field (codes "tags") text_map
+    ∷ nullable_field (codes "baseRowId") (leaf int64)
+    ∷ nullable_field (codes "defaultRowCommitVersion") (leaf int64)
+    ∷ nullable_field (codes "clusteringProvider") (leaf chars)
     ∷ []
 
 -- read beside them
 unfoldable pub vector_group : List Field
-vector_group = optional (codes "deletionVector") (group (fields (optional (codes "storageType") (leaf chars) ∷ []))) ∷ []
+vector_group = nullable_field (codes "deletionVector") (group (fields (nullable_field (codes "storageType") (leaf chars) ∷ []))) ∷ []
 
 unfoldable pub remove_group : List Field
-remove_group = optional (codes "path") (leaf chars) ∷ optional (codes "deletionTimestamp") (leaf int64) ∷ optional (codes "dataChange") (leaf flag) ∷ []
+remove_group = nullable_field (codes "path") (leaf chars) ∷ nullable_field (codes "deletionTimestamp") (leaf int64) ∷ nullable_field (codes "dataChange") (leaf flag) ∷ []
 
 unfoldable pub format_group : List Field
-format_group = optional (codes "provider") (leaf chars) ∷ optional (codes "options") text_map ∷ []
+format_group = nullable_field (codes "provider") (leaf chars) ∷ nullable_field (codes "options") text_map ∷ []
 
 unfoldable pub metadata_group : List Field
 metadata_group =
-    optional (codes "id") (leaf chars)
-    ∷ optional (codes "name") (leaf chars)
-    ∷ optional (codes "description") (leaf chars)
-    ∷ optional (codes "format") (group (fields format_group))
-    ∷ optional (codes "schemaString") (leaf chars)
-    ∷ optional (codes "partitionColumns") texts
-    ∷ optional (codes "configuration") text_map
-    ∷ optional (codes "createdTime") (leaf int64)
+    nullable_field (codes "id") (leaf chars)
+    ∷ nullable_field (codes "name") (leaf chars)
+    ∷ nullable_field (codes "description") (leaf chars)
+    ∷ nullable_field (codes "format") (group (fields format_group))
+    ∷ nullable_field (codes "schemaString") (leaf chars)
+    ∷ nullable_field (codes "partitionColumns") list_of_texts
+    ∷ nullable_field (codes "configuration") text_map
+    ∷ nullable_field (codes "createdTime") (leaf int64)
     ∷ []
 
 unfoldable pub protocol_group : List Field
 protocol_group =
-    optional (codes "minReaderVersion") (leaf int32)
-    ∷ optional (codes "minWriterVersion") (leaf int32)
-    ∷ optional (codes "readerFeatures") texts
-    ∷ optional (codes "writerFeatures") texts
+    nullable_field (codes "minReaderVersion") (leaf int32)
+    ∷ nullable_field (codes "minWriterVersion") (leaf int32)
+    ∷ nullable_field (codes "readerFeatures") list_of_texts
+    ∷ nullable_field (codes "writerFeatures") list_of_texts
     ∷ []
 
 unfoldable pub domain_group : List Field
-domain_group = optional (codes "domain") (leaf chars) ∷ optional (codes "configuration") (leaf chars) ∷ optional (codes "removed") (leaf flag) ∷ []
+domain_group = nullable_field (codes "domain") (leaf chars) ∷ nullable_field (codes "configuration") (leaf chars) ∷ nullable_field (codes "removed") (leaf flag) ∷ []
 
 unfoldable pub checkpoint_group : List Field
-checkpoint_group = optional (codes "version") (leaf int64) ∷ []
+checkpoint_group = nullable_field (codes "version") (leaf int64) ∷ []
 
 unfoldable pub sidecar_group : List Field
-sidecar_group = optional (codes "path") (leaf chars) ∷ optional (codes "sizeInBytes") (leaf int64) ∷ optional (codes "modificationTime") (leaf int64) ∷ []
+sidecar_group = nullable_field (codes "path") (leaf chars) ∷ nullable_field (codes "sizeInBytes") (leaf int64) ∷ nullable_field (codes "modificationTime") (leaf int64) ∷ []
 
 -- ---- the whole schema
 
 -- the group of a kind of action has the name of its key
 abbrev pub keyed_group : ActionKey → List Field → Field
-keyed_group k fs = optional (name_of k) (group (fields fs))
+keyed_group k fs = nullable_field (name_of k) (group (fields fs))
 
 -- the groups, by what an add has
-abbrev pub groups : List Field → Fields
-groups adds = fields (
+abbrev pub action_groups : List Field → Fields
+action_groups adds = fields (
     keyed_group key.Txn txn_group
     ∷ keyed_group key.Add adds
     ∷ keyed_group key.Remove remove_group
@@ -100,7 +100,7 @@ groups adds = fields (
 
 -- what is written, and what is read
 abbrev pub written_fields : Fields
-written_fields = groups add_group
+written_fields = action_groups add_group
 
 abbrev pub read_fields : Fields
-read_fields = groups (add_group ++ vector_group)
+read_fields = action_groups (add_group ++ vector_group)

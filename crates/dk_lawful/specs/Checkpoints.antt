@@ -164,10 +164,10 @@ IsCheckpointOf (refs.Parts v parts paths) version = (v ≡ version) × (1 ≤ pa
 IsCheckpointOf (refs.V2 v path json) version = (v ≡ version) × ((id : ℕ) × (place_of path ≡ V2 version id json))
 
 -- the paths of its objects, in order
-abbrev pub paths_of : CheckpointRef → List (List ℕ)
-paths_of (refs.Classic version path) = path ∷ []
-paths_of (refs.Parts version parts paths) = paths
-paths_of (refs.V2 version path json) = path ∷ []
+abbrev pub object_paths : CheckpointRef → List (List ℕ)
+object_paths (refs.Classic version path) = path ∷ []
+object_paths (refs.Parts version parts paths) = paths
+object_paths (refs.V2 version path json) = path ∷ []
 
 -- an object stands at each of these paths
 abbrev pub AllStand : List Told → List (List ℕ) → Type 0

@@ -8,12 +8,12 @@ use Rattle.dk_store.specs.Told.{Told}
 use Rattle.dk_lawful.specs.History.{RatifiedCommit, history, next_version}
 
 -- a commitInfo says the id
-abbrev pub is_id : List ℕ → Option (List ℕ) → Bool
-is_id id None = false
-is_id id (Some said) = bytes_eq id said
+abbrev pub says_id : List ℕ → Option (List ℕ) → Bool
+says_id id None = false
+says_id id (Some said) = bytes_eq id said
 
 abbrev pub says : List ℕ → Action → Bool
-says id (action.Info info) = is_id id info.txn_id
+says id (action.Info info) = says_id id info.txn_id
 says id _ = false
 
 -- the commit has the id

@@ -32,17 +32,17 @@ founding_actions =
 unfoldable pub adding_text : List ℕ
 adding_text = codes "{\"commitInfo\":{\"inCommitTimestamp\":6}}\n{\"add\":{\"modificationTime\":5,\"path\":\"a\",\"size\":1}}\n"
 
-abbrev pub added : List ℕ → Action
-added path = an_add path (pos 1) false
+abbrev pub plain_file : List ℕ → Action
+plain_file path = an_add path (pos 1) false
 
 abbrev pub adding_actions : List Action
-adding_actions = said_at 6 ∷ added (codes "a") ∷ []
+adding_actions = said_at 6 ∷ plain_file (codes "a") ∷ []
 
 unfoldable pub late_text : List ℕ
 late_text = codes "{\"commitInfo\":{\"inCommitTimestamp\":5}}\n{\"add\":{\"modificationTime\":5,\"path\":\"b\",\"size\":1}}\n"
 
 abbrev pub late_actions : List Action
-late_actions = said_at 5 ∷ added (codes "b") ∷ []
+late_actions = said_at 5 ∷ plain_file (codes "b") ∷ []
 
 -- ---- its log
 

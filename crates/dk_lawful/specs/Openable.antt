@@ -12,7 +12,7 @@ use Rattle.dk_lawful.specs.History.{next_version}
 use Rattle.dk_lawful.specs.Lawful.{Lawful}
 use Rattle.dk_lawful.specs.Floor.{FromFloor}
 use Rattle.dk_lawful.specs.declared.segment.CheckpointRef.{CheckpointRef}
-use Rattle.dk_lawful.specs.Checkpoints.{Top, Among, ObjectsMean, IsCheckpointOf, paths_of, AllStand}
+use Rattle.dk_lawful.specs.Checkpoints.{Top, Among, ObjectsMean, IsCheckpointOf, object_paths, AllStand}
 use Rattle.dk_lawful.specs.Segments.{is_among, version_of, base_of, segment_of, first_gap, HasNoGap, commit_segment, commit_gap}
 
 -- ---- what stands
@@ -58,7 +58,7 @@ EachFromFloorIsKept = (events : List Told) (horizon : ℤ) (version : ℕ) (choi
 -- What is chosen is a checkpoint of a version that is allowed, by the paths of its objects, which stand.
 abbrev pub BaseStands : Type 0
 BaseStands = (events : List Told) (allowed : Checkpoints) (asked : ℕ) (checkpoint : CheckpointRef) → base_of (standing_places events) allowed asked ≡ Some checkpoint
-    → IsCheckpointOf checkpoint (version_of checkpoint) × (version_of checkpoint ≤ asked) × AllStand events (paths_of checkpoint)
+    → IsCheckpointOf checkpoint (version_of checkpoint) × (version_of checkpoint ≤ asked) × AllStand events (object_paths checkpoint)
 
 -- Where no checkpoint and no compacted file is chosen, a version is read from its commits alone.
 abbrev pub PlainIsByCommits : Type 0

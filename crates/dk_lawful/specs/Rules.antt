@@ -15,7 +15,7 @@ use Rattle.dk_model.specs.Settings.{setting}
 use Rattle.dk_features.specs.Names.{append_only, domain_metadata, catalog_managed}
 use Rattle.dk_features.specs.InForce.{has_feature}
 use Rattle.dk_features.specs.Forms.{is_each_once, has_form, keeps_features}
-use Rattle.dk_lawful.specs.Written.{is_written}
+use Rattle.dk_lawful.specs.Written.{is_table_written}
 use Rattle.dk_lawful.specs.Timestamps.{is_set, has_timestamps, said_first, last_timestamp, is_enabled_as_before, is_enabled_since, is_enabled_from_start}
 
 -- the paths of a commit's file actions
@@ -78,7 +78,7 @@ keeps_protocol before actions = list_all (is_protocol_kept before.protocol) (fil
 
 -- rule 6: the state after the commit can be written
 abbrev pub keeps_writer : TableState → List Action → Bool
-keeps_writer before actions = is_written (steps before actions).protocol (steps before actions).metadata
+keeps_writer before actions = is_table_written (steps before actions).protocol (steps before actions).metadata
 
 -- rule 7: no rows are removed from a table that was set to be appended to alone
 unfoldable pub is_append_only : Option Protocol → Option Metadata → Bool

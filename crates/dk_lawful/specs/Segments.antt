@@ -130,9 +130,9 @@ parts_at present version (Part v part parts) = if v == version && (part == 1 && 
 parts_at present version _ = None
 
 -- the UUID of a checkpoint of the form V2 of this version
-abbrev pub id_at : ℕ → Place → Option ℕ
-id_at version (V2 v id json) = if v == version then Some id else None
-id_at version _ = None
+abbrev pub checkpoint_id_at : ℕ → Place → Option ℕ
+checkpoint_id_at version (V2 v id json) = if v == version then Some id else None
+checkpoint_id_at version _ = None
 
 -- the paths of so many of its parts, from the first on
 abbrev pub part_paths : ℕ → ℕ → ℕ → List (List ℕ)
@@ -162,7 +162,7 @@ by_parts present version (Some parts) id = Some (parts_ref version parts)
 abbrev pub checkpoint_at : List Place → ℕ → Option CheckpointRef
 checkpoint_at places version =
     if is_among places (Classic version) then Some (classic_ref version)
-    else by_parts (is_among places) version (greatest (filter_map (parts_at (is_among places) version) places)) (least (filter_map (id_at version) places))
+    else by_parts (is_among places) version (greatest (filter_map (parts_at (is_among places) version) places)) (least (filter_map (checkpoint_id_at version) places))
 
 abbrev pub base_of : List Place → Checkpoints → ℕ → Option CheckpointRef
 base_of places allowed asked = option_and_then (checkpoint_at places) (base_version places allowed asked)

@@ -8,14 +8,14 @@ use Rattle.dk_model.specs.declared.state.TableState.{TableState}
 use Rattle.dk_model.specs.State.{steps}
 use Rattle.dk_model.specs.NameSets.{is_one_of}
 use Rattle.dk_features.specs.Names.{catalog_managed}
-use Rattle.dk_features.specs.InForce.{has_feature, listed}
+use Rattle.dk_features.specs.InForce.{has_feature, listed_features}
 use Rattle.dk_features.specs.Support.{unread, unwritten}
 use Rattle.dk_lawful.specs.Written.{in_commit_timestamp, of_commits, is_read_by}
 use Rattle.dk_lawful.specs.Rules.{keeps_heads, keeps_kinds, keeps_paths_apart, keeps_names_apart, keeps_protocol, keeps_rows, keeps_domains, begins_unenabled, keeps_adds, first_broken}
 
 -- the names that a protocol asks for, by lists that count
 abbrev pub asked_names : Protocol → List (List ℕ)
-asked_names p = (if p.min_reader == 3 then listed p.reader_features else []) ++ (if p.min_writer == 7 then listed p.writer_features else [])
+asked_names p = (if p.min_reader == 3 then listed_features p.reader_features else []) ++ (if p.min_writer == 7 then listed_features p.writer_features else [])
 
 -- the first of these features that a protocol asks for
 unfoldable pub awaited : Option Protocol → Option (List ℕ)

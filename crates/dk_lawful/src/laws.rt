@@ -2,7 +2,7 @@
 
 ghost use Rattle.std.specs.Prelude.{[], codes, pos, true, ◌++◌, ◌∷◌, ◌≡◌, ℤ};
 ghost use Rattle.dk_lawful.specs.BacklogExample.{BacklogIsLawful, both_ratified, covered, next_text};
-ghost use Rattle.dk_lawful.specs.BrokenRules.{appended, applying_text, informing_text, removing_text, settling_text, sidecar_text, untimed_text, vector_text};
+ghost use Rattle.dk_lawful.specs.BrokenRules.{appending_log, applying_text, informing_text, removing_text, settling_text, sidecar_text, untimed_text, vector_text};
 ghost use Rattle.dk_lawful.specs.Calls.{DeleteKeepsLawful, ForgetKeepsLawful, KeepsLawfulOnwards, NoCutIsSame, PutNewKeepsLawful, PutOverKeepsLawful, RatifyKeepsLawful, SameIsPastEach};
 ghost use Rattle.dk_lawful.specs.Example.{ExampleHistory, ExampleIsLawful, IsForbidden, example, first_text, listing_text, managed_actions, managed_text, ratifying, second_actions, second_text, shrinking_text, staging, upgrading_text};
 ghost use Rattle.dk_lawful.specs.History.{by_catalogue, by_file, history};
@@ -204,8 +204,8 @@ pub fn broken_rules()
     ensures domain_twice { IsForbidden example (Made (commit_path 2) (settling_text ++ settling_text) (pos 2)) }
 
     // rows that go from a table that they are only added to, which is a lawful one
-    ensures appended { (horizon : ℤ) → Lawful appended horizon }
-    ensures rows_removed { IsForbidden appended (Made (commit_path 1) removing_text (pos 1)) }
+    ensures appended { (horizon : ℤ) → Lawful appending_log horizon }
+    ensures rows_removed { IsForbidden appending_log (Made (commit_path 1) removing_text (pos 1)) }
 
     // a domain without its feature
     ensures domain_early { IsForbidden example (Made (commit_path 2) settling_text (pos 2)) }

@@ -9,7 +9,7 @@ use Rattle.dk_pqmodel.specs.Triples.{columns_joined, cell_triples, group_triples
 use Rattle.dk_pqmodel.specs.Fits.{AreTriplesOf, Matches, MatchEach, MatchAll, is_of_kind}
 use Rattle.dk_levels.specs.Places.{from}
 use Rattle.dk_levels.specs.Reading.{begins, at_definition, at_repetition, first_triple, column_length, nothing_at, leaf_at, Reader, later_at, list_cells_at, pair_at, present_at, cell_at, cells_at, all_empty, rows_at}
-use Rattle.dk_levels.specs.Solid.{IsSolid, IsSolidShape, AreSolid, IsReadable}
+use Rattle.dk_levels.specs.Solid.{IsSolid, IsSolidShape, AreSolid, AreReadable}
 use Rattle.dk_levels.proofs.Joins.{joined-nothing, length-joined}
 use Rattle.dk_levels.proofs.Begins.{Low, begin_cell, begin_group, low-joined, low-from, low_begin, low_later, low_raise, same_repetition, other_definition, lower_repetition, same_definition, behind, beside, empties, joined_longer, triple_again, wide, wide_shape, count, count_column}
 use Rattle.dk_levels.proofs.Put.{length-cell_triples, length-later_triples}
@@ -201,5 +201,5 @@ one_solid_reading fs rows others columns wide solid a b =
     let other : rows_at fs columns ≡ Some others = ap (rows_at fs) b.1 ∙ rows_again fs others wide solid b.0 in
     cc (one, other)
 
-pub one_reading : (fs : Fields) (rows others : Cells) (columns : List Column) → IsReadable fs → AreTriplesOf fs rows columns → AreTriplesOf fs others columns → rows ≡ others
+pub one_reading : (fs : Fields) (rows others : Cells) (columns : List Column) → AreReadable fs → AreTriplesOf fs rows columns → AreTriplesOf fs others columns → rows ≡ others
 one_reading fs rows others columns readable a b = one_solid_reading fs rows others columns readable.wide readable.solid a b

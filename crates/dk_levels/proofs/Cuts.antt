@@ -6,7 +6,7 @@ use Rattle.dk_pqmodel.specs.Shape as shape
 use Rattle.dk_pqmodel.specs.Schema.{levels_at, levels_in, levels_of, IsSchema}
 use Rattle.dk_pqmodel.specs.FileSchema.{FileNode, FileNodes, node_name, is_optional, named_in, leaf_kind, group_nodes, repeated_node, only_node, two_nodes}
 use Rattle.dk_pqmodel.specs.Projection.{Path, Plan, missing, members, elements, entries, Plans, is_missing, all_missing, on_some, elements_of, projection_at, projection_in, projection_each, projection_named, projection, field_then, projected_field, projected_fields}
-use Rattle.dk_levels.specs.Solid.{IsSolid, AreSolid, IsReadable}
+use Rattle.dk_levels.specs.Solid.{IsSolid, AreSolid, AreReadable}
 use Rattle.dk_levels.proofs.Begins.{wide}
 use Rattle.dk_levels.proofs.Readable.{optional_most}
 
@@ -119,6 +119,6 @@ pub record IsSolidCut (fs : Fields) : Type 0 where
 pub projected_is_solid : (fs : Fields) (ns : FileNodes) → all_missing (projection fs ns) ≡ false → IsSolidCut (projected_fields (projection fs ns))
 projected_is_solid fs ns e = let t = each_tight fs [] ns in record { wide = t.some e; solid = t.solid }
 
-pub projected_is_readable : (fs : Fields) (ns : FileNodes) → IsSchema fs → all_missing (projection fs ns) ≡ false → IsReadable (projected_fields (projection fs ns))
+pub projected_is_readable : (fs : Fields) (ns : FileNodes) → IsSchema fs → all_missing (projection fs ns) ≡ false → AreReadable (projected_fields (projection fs ns))
 projected_is_readable fs ns h e =
     let t = each_tight fs [] ns in record { wide = t.some e; solid = t.solid; deep = omega (arith, t.deep, h.levels) }

@@ -4,7 +4,7 @@ use Rattle.dk_pqmodel.specs.Shape.{Fields}
 use Rattle.dk_pqmodel.specs.Datum.{Cells, Column}
 use Rattle.dk_pqmodel.specs.Fits.{AreTriplesOf}
 use Rattle.dk_levels.specs.Reading.{rows_at}
-use Rattle.dk_levels.specs.Solid.{IsReadable}
+use Rattle.dk_levels.specs.Solid.{AreReadable}
 use Rattle.dk_levels.specs.Answers.{GivesMeant, IsBrokenOrMemory}
 use Rattle.dk_pqmodel.specs.declared.fault.PqFault.{PqFault}
 use Rattle.dk_pqmodel.specs.declared.fault.PqFault.TheVariants.{NotParquet, Shape, Compressed, Encoding, Broken, OutOfMemory}
@@ -17,16 +17,16 @@ found view fs cs (Ok v) h = rows_take fs cs (view v) h
 found view fs cs (Err e) h = tt
 
 -- reading gives the rows whose triples the columns are
-pub gives_rows : {X : Type 0} (view : X → Cells) (fs : Fields) (cs : List Column) (r : Result X PqFault) → IsReadable fs → GivesMeant view r (rows_at fs cs)
+pub gives_rows : {X : Type 0} (view : X → Cells) (fs : Fields) (cs : List Column) (r : Result X PqFault) → AreReadable fs → GivesMeant view r (rows_at fs cs)
     → (rows : Cells) → AreTriplesOf fs rows cs → GivesMeant view r (Some rows)
 gives_rows view fs cs r readable h rows are = subst (λ o. GivesMeant view r o) (ap (rows_at fs) are.1 ∙ rows_again fs rows readable.wide readable.solid are.0) h
 
-pub only : {X : Type 0} (view : X → Cells) (fs : Fields) (cs : List Column) (r : Result X PqFault) → IsReadable fs → GivesMeant view r (rows_at fs cs)
+pub only : {X : Type 0} (view : X → Cells) (fs : Fields) (cs : List Column) (r : Result X PqFault) → AreReadable fs → GivesMeant view r (rows_at fs cs)
     → (rows : Cells) → AreTriplesOf fs rows cs → IfOk r (λ v. view v ≡ rows)
 only view fs cs (Err e) readable h rows are = tt
 only view fs cs (Ok v) readable h rows are = let same : Some rows ≡ Some (view v) = gives_rows view fs cs (Ok v) readable h rows are in cc
 
-pub broken : {X : Type 0} (view : X → Cells) (fs : Fields) (cs : List Column) (r : Result X PqFault) → IsReadable fs → GivesMeant view r (rows_at fs cs)
+pub broken : {X : Type 0} (view : X → Cells) (fs : Fields) (cs : List Column) (r : Result X PqFault) → AreReadable fs → GivesMeant view r (rows_at fs cs)
     → r ≡ Err Broken → (rows : Cells) → AreTriplesOf fs rows cs → ⊥
 broken view fs cs r readable h b rows are =
     let no : Some rows ≡ None = subst (λ x. GivesMeant view x (Some rows)) b (gives_rows view fs cs r readable h rows are) in cc

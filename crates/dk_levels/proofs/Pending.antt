@@ -6,7 +6,7 @@ use Rattle.dk_pqmodel.specs.Shape.{one_field, width_of, width_at, Field, Fields,
 use Rattle.dk_pqmodel.specs.Triples.{columns_joined, empty_columns, nothing, group_triples, later_triples}
 use Rattle.dk_pqmodel.specs.NodeView.{fields_of, field_of, shape_of}
 use Rattle.dk_pqmodel.specs.RowView.{cells_of, rows_of}
-use Rattle.dk_levels.specs.Borrowed.{columns_of, column_of, triple_of}
+use Rattle.dk_levels.specs.Borrowed.{borrowed_columns, borrowed_column, borrowed_triple}
 use Rattle.dk_levels.specs.declared.borrowed.BorrowedTriple.{BorrowedTriple}
 use Rattle.dk_pqmodel.specs.declared.row.Row.{Row}
 use Rattle.dk_pqmodel.specs.declared.node.Node.{Node}
@@ -19,16 +19,16 @@ use Rattle.dk_pqmodel.proofs.NodeViews.{fields_of-drop, field_of-is, shape_of-Ma
 
 -- once ts are put, width columns from next on, the columns are total, and the next place is end
 pub record Pending (columns : List (Vec BorrowedTriple Global)) (next : ℕ) (ts : List Column) (width : ℕ) (total : List Column) (end : ℕ) : Type 0 where
-  pub columns_are : columns_joined (columns_of columns) (from next ts) ≡ total
+  pub columns_are : columns_joined (borrowed_columns columns) (from next ts) ≡ total
   pub ends : next + width ≡ end
 
-pub pending_begins : (cs : List (Vec BorrowedTriple Global)) (next : ℕ) (ts : List Column) (w : ℕ) → Pending cs next ts w (columns_joined (columns_of cs) (from next ts)) (next + w)
+pub pending_begins : (cs : List (Vec BorrowedTriple Global)) (next : ℕ) (ts : List Column) (w : ℕ) → Pending cs next ts w (columns_joined (borrowed_columns cs) (from next ts)) (next + w)
 pending_begins cs next ts w = record { columns_are = refl; ends = refl }
 
 pub pending_step : (cs more : List (Vec BorrowedTriple Global)) (next after w v end : ℕ) (a b total : List Column)
     → Adds next cs more a → after ≡ next + w → length a ≡ w → Pending cs next (a ++ b) (w + v) total end → Pending more after b v total end
 pending_step cs more next after w v end a b total added moved n p = record {
-  columns_are = ap (λ x. columns_joined x (from after b)) added ∙ ap (λ k. columns_joined (columns_joined (columns_of cs) (from next a)) (from k b)) moved ∙ adds_beside next w (columns_of cs) a b n ∙ p.columns_are;
+  columns_are = ap (λ x. columns_joined x (from after b)) added ∙ ap (λ k. columns_joined (columns_joined (borrowed_columns cs) (from next a)) (from k b)) moved ∙ adds_beside next w (borrowed_columns cs) a b n ∙ p.columns_are;
   ends = omega (arith, p.ends, moved);
 }
 
@@ -37,9 +37,9 @@ joined-empties zero cs h = joined-nothing cs
 joined-empties (suc n) [] h = absurd (omega arith)
 joined-empties (suc n) (c ∷ cs) h = cc (append-nil c, joined-empties n cs (omega arith))
 
-pub pending_ends : (cs : List (Vec BorrowedTriple Global)) (next end : ℕ) (total : List Column) → Pending cs next [] 0 total end → next ≤ length cs → (columns_of cs ≡ total) × (next ≡ end)
+pub pending_ends : (cs : List (Vec BorrowedTriple Global)) (next end : ℕ) (total : List Column) → Pending cs next [] 0 total end → next ≤ length cs → (borrowed_columns cs ≡ total) × (next ≡ end)
 pending_ends cs next end total p h =
-    (sym (joined-empties next (columns_of cs) (omega (arith, length-map cs column_of))) ∙ p.columns_are, omega (arith, p.ends))
+    (sym (joined-empties next (borrowed_columns cs) (omega (arith, length-map cs borrowed_column))) ∙ p.columns_are, omega (arith, p.ends))
 
 -- a column for each leaf, all with one triple
 pub nothing_step : (cs more : List (Vec BorrowedTriple Global)) (next after w v end : ℕ) (e : Column) (total : List Column)
@@ -58,7 +58,7 @@ nothing_loop ns i n cs more next after end e total h is added moved p =
     (fields_of-drop ns i n h is ∙ ap (λ f. one_field f (fields_of (drop (i + 1) ns))) (field_of-is n)) p)
 
 pub nothing_ends : (ns : List Node) (i : ℕ) (cs : List (Vec BorrowedTriple Global)) (next end : ℕ) (e : Column) (total : List Column) → length ns ≤ i
-    → Pending cs next (replicate (width_of (fields_of (drop i ns))) e) (width_of (fields_of (drop i ns))) total end → next + width_of (fields_of (drop i ns)) ≤ length cs → columns_of cs ≡ total
+    → Pending cs next (replicate (width_of (fields_of (drop i ns))) e) (width_of (fields_of (drop i ns))) total end → next + width_of (fields_of (drop i ns)) ≤ length cs → borrowed_columns cs ≡ total
 nothing_ends ns i cs next end e total h p room =
     let none : drop i ns ≡ [] = drop_all i ns h in
     (pending_ends cs next end total (subst (λ ms. Pending cs next (replicate (width_of (fields_of ms)) e) (width_of (fields_of ms)) total end) none p) (omega arith)).0
@@ -81,7 +81,7 @@ pub record GroupPending (columns : List (Vec BorrowedTriple Global)) (next : ℕ
 
 -- elements that are still to be put behind one another
 pub record LaterPending (columns : List (Vec BorrowedTriple Global)) (leaf : ℕ) (f : Field) (cells : List Cell) (d k : ℕ) (total : List Column) : Type 0 where
-  pub columns_are : columns_joined (columns_of columns) (from leaf (later_triples (cells_of cells) f d k)) ≡ total
+  pub columns_are : columns_joined (borrowed_columns columns) (from leaf (later_triples (cells_of cells) f d k)) ≡ total
   pub fits : MatchAll (cells_of cells) f
 
 -- the same of an entry
@@ -92,31 +92,31 @@ nothing_entry n cs between more leaf next r d first moved rest =
     rw (field_of-is n)
     (let p = pending_begins cs leaf (replicate (1 + (width_at (shape_of n.kind) + 0)) (single_triple r d None)) (1 + (width_at (shape_of n.kind) + 0)) in
     let q = nothing_step cs between leaf next 1 (width_at (shape_of n.kind) + 0) _ (single_triple r d None) _ first moved p in
-    rest ∙ ap (λ w. columns_joined (columns_of between) (from next (replicate w (single_triple r d None)))) (sym (add-zero _)) ∙ q.columns_are)
+    rest ∙ ap (λ w. columns_joined (borrowed_columns between) (from next (replicate w (single_triple r d None)))) (sym (add-zero _)) ∙ q.columns_are)
 
 -- rows that are still to be put behind one another
 pub record RowsPending (columns : List (Vec BorrowedTriple Global)) (fields : Fields) (rows : List Row) (total : List Column) : Type 0 where
-  pub columns_are : columns_joined (columns_of columns) (from 0 (later_triples (rows_of rows) (root fields) 0 0)) ≡ total
+  pub columns_are : columns_joined (borrowed_columns columns) (from 0 (later_triples (rows_of rows) (root fields) 0 0)) ≡ total
   pub fits : MatchAll (rows_of rows) (root fields)
 
 -- empty columns
 
-pub add_one : (cs more : List (Vec BorrowedTriple Global)) (v : Vec BorrowedTriple Global) → v.items ≡ [] → more ≡ cs ++ v ∷ [] → columns_of more ≡ columns_of cs ++ empty_columns 1
-add_one cs more v e h = ap columns_of h ∙ map-append column_of cs (v ∷ []) ∙ ap (λ items. columns_of cs ++ map triple_of items ∷ []) e
+pub add_one : (cs more : List (Vec BorrowedTriple Global)) (v : Vec BorrowedTriple Global) → v.items ≡ [] → more ≡ cs ++ v ∷ [] → borrowed_columns more ≡ borrowed_columns cs ++ empty_columns 1
+add_one cs more v e h = ap borrowed_columns h ∙ map-append borrowed_column cs (v ∷ []) ∙ ap (λ items. borrowed_columns cs ++ map borrowed_triple items ∷ []) e
 
 pub add_loop : (ns : List Node) (i : ℕ) (n : Node) (cs more : List (Vec BorrowedTriple Global)) (total : List Column)
-    → i < length ns → n ≡ get_or ns i n → columns_of more ≡ columns_of cs ++ empty_columns (width_at (shape_of n.kind))
-    → columns_of cs ++ empty_columns (width_of (fields_of (drop i ns))) ≡ total
-    → columns_of more ++ empty_columns (width_of (fields_of (drop (i + 1) ns))) ≡ total
+    → i < length ns → n ≡ get_or ns i n → borrowed_columns more ≡ borrowed_columns cs ++ empty_columns (width_at (shape_of n.kind))
+    → borrowed_columns cs ++ empty_columns (width_of (fields_of (drop i ns))) ≡ total
+    → borrowed_columns more ++ empty_columns (width_of (fields_of (drop (i + 1) ns))) ≡ total
 add_loop ns i n cs more total h is added p =
-    ap (λ x. x ++ empty_columns (width_of (fields_of (drop (i + 1) ns)))) added ∙ append_assoc (columns_of cs) _ _
-    ∙ ap (λ x. columns_of cs ++ x) (replicate-append-replicate (width_at (shape_of n.kind)) (width_of (fields_of (drop (i + 1) ns))) [])
-    ∙ sym (ap (λ fs. columns_of cs ++ empty_columns (width_of fs)) (fields_of-drop ns i n h is ∙ ap (λ f. one_field f (fields_of (drop (i + 1) ns))) (field_of-is n))) ∙ p
+    ap (λ x. x ++ empty_columns (width_of (fields_of (drop (i + 1) ns)))) added ∙ append_assoc (borrowed_columns cs) _ _
+    ∙ ap (λ x. borrowed_columns cs ++ x) (replicate-append-replicate (width_at (shape_of n.kind)) (width_of (fields_of (drop (i + 1) ns))) [])
+    ∙ sym (ap (λ fs. borrowed_columns cs ++ empty_columns (width_of fs)) (fields_of-drop ns i n h is ∙ ap (λ f. one_field f (fields_of (drop (i + 1) ns))) (field_of-is n))) ∙ p
 
 pub add_map : (b : Box Node Global) (cs between more : List (Vec BorrowedTriple Global))
-    → columns_of between ≡ columns_of cs ++ empty_columns 1 → columns_of more ≡ columns_of between ++ empty_columns (width_at (shape_of b.value.kind))
-    → columns_of more ≡ columns_of cs ++ empty_columns (width_at (shape_of (Map b)))
+    → borrowed_columns between ≡ borrowed_columns cs ++ empty_columns 1 → borrowed_columns more ≡ borrowed_columns between ++ empty_columns (width_at (shape_of b.value.kind))
+    → borrowed_columns more ≡ borrowed_columns cs ++ empty_columns (width_at (shape_of (Map b)))
 add_map b cs between more first added =
     rw (shape_of-Map b, field_of-is b.value)
-    (added ∙ ap (λ x. x ++ empty_columns (width_at (shape_of b.value.kind))) first ∙ append_assoc (columns_of cs) _ _
-    ∙ ap (λ x. columns_of cs ++ x) (replicate-append-replicate 1 (width_at (shape_of b.value.kind)) []))
+    (added ∙ ap (λ x. x ++ empty_columns (width_at (shape_of b.value.kind))) first ∙ append_assoc (borrowed_columns cs) _ _
+    ∙ ap (λ x. borrowed_columns cs ++ x) (replicate-append-replicate 1 (width_at (shape_of b.value.kind)) []))

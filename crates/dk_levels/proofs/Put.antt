@@ -8,7 +8,7 @@ use Rattle.dk_pqmodel.specs.Triples.{columns_joined, reached, cell_triples, grou
 use Rattle.dk_pqmodel.specs.Fits.{Matches, MatchEach, MatchAll}
 use Rattle.dk_pqmodel.specs.NodeView.{field_of, fields_of}
 use Rattle.dk_pqmodel.specs.RowView.{datum_of, cells_of, rows_of}
-use Rattle.dk_levels.specs.Borrowed.{columns_of, column_of}
+use Rattle.dk_levels.specs.Borrowed.{borrowed_columns, borrowed_column}
 use Rattle.dk_pqmodel.specs.declared.node.Node.{Node}
 use Rattle.dk_pqmodel.specs.declared.node.NodeKind as node
 use Rattle.dk_pqmodel.specs.declared.row.Cell.{Cell, the_lemmas}
@@ -139,7 +139,7 @@ pub group_within : (ns : List Node) (cs : List Cell) (i : ℕ) → MatchEach (ce
 group_within ns cs i h l = omega (arith, fit_each_within ns cs h)
 
 pub group_ends : (ns : List Node) (cs : List Cell) (i : ℕ) (columns : List (Vec BorrowedTriple Global)) (next r d k end : ℕ) (total : List Column)
-    → MatchEach (cells_of cs) (fields_of ns) → length cs ≤ i → end ≤ length columns → GroupPending columns next (drop i ns) (drop i cs) r d k total end → columns_of columns ≡ total
+    → MatchEach (cells_of cs) (fields_of ns) → length cs ≤ i → end ≤ length columns → GroupPending columns next (drop i ns) (drop i cs) r d k total end → borrowed_columns columns ≡ total
 group_ends ns cs i columns next r d k end total h l room p =
     let en : drop i ns ≡ [] = drop_all i ns (omega (arith, fit_each_within ns cs h)) in
     let ec : drop i cs ≡ [] = drop_all i cs l in
@@ -153,19 +153,19 @@ pub later_loop : (f : Field) (cs : List Cell) (i : ℕ) (c : Cell) (columns more
 later_loop f cs i c columns more leaf r d k total h is e added p =
     let es = cells_of-drop cs i c h is in
     let fits : Matches (datum_of c) f × MatchAll (cells_of (drop (i + 1) cs)) f = rw es at p.fits in
-    let are : columns_joined (columns_of columns) (from leaf (columns_joined (cell_triples (datum_of c) f k d k) (later_triples (cells_of (drop (i + 1) cs)) f d k))) ≡ total = rw es at p.columns_are in
+    let are : columns_joined (borrowed_columns columns) (from leaf (columns_joined (cell_triples (datum_of c) f k d k) (later_triples (cells_of (drop (i + 1) cs)) f d k))) ≡ total = rw es at p.columns_are in
     record {
-      columns_are = ap (λ x. columns_joined x (from leaf (later_triples (cells_of (drop (i + 1) cs)) f d k))) (added ∙ ap (λ j. columns_joined (columns_of columns) (from leaf (cell_triples (datum_of c) f j d k))) e)
-          ∙ adds_again leaf (columns_of columns) _ _ ∙ are;
+      columns_are = ap (λ x. columns_joined x (from leaf (later_triples (cells_of (drop (i + 1) cs)) f d k))) (added ∙ ap (λ j. columns_joined (borrowed_columns columns) (from leaf (cell_triples (datum_of c) f j d k))) e)
+          ∙ adds_again leaf (borrowed_columns columns) _ _ ∙ are;
       fits = fits.1;
     }
 
 pub later_ends : (f : Field) (cs : List Cell) (i : ℕ) (columns : List (Vec BorrowedTriple Global)) (leaf d k : ℕ) (total : List Column)
-    → length cs ≤ i → leaf ≤ length columns → LaterPending columns leaf f (drop i cs) d k total → columns_of columns ≡ total
+    → length cs ≤ i → leaf ≤ length columns → LaterPending columns leaf f (drop i cs) d k total → borrowed_columns columns ≡ total
 later_ends f cs i columns leaf d k total h room p =
     let ec : drop i cs ≡ [] = drop_all i cs h in
-    let are : columns_joined (columns_of columns) (from leaf []) ≡ total = rw ec at p.columns_are in
-    sym (joined-empties leaf (columns_of columns) (omega (arith, length-map columns column_of))) ∙ are
+    let are : columns_joined (borrowed_columns columns) (from leaf []) ≡ total = rw ec at p.columns_are in
+    sym (joined-empties leaf (borrowed_columns columns) (omega (arith, length-map columns borrowed_column))) ∙ are
 
 pub list_ends : (f : Field) (cs : List Cell) (c : Cell) (columns between more : List (Vec BorrowedTriple Global)) (leaf r d k : ℕ)
     → 0 < length cs → c ≡ get_or cs 0 c
@@ -174,7 +174,7 @@ pub list_ends : (f : Field) (cs : List Cell) (c : Cell) (columns between more : 
     → Adds leaf columns more (list_triples (cells_of cs) f r d k)
 list_ends f cs c columns between more leaf r d k h is first others =
     rw (cells_of-drop cs 0 c h is)
-    (others ∙ ap (λ x. columns_joined x (from leaf (later_triples (cells_of (drop 1 cs)) f (d + 1) (k + 1)))) first ∙ adds_again leaf (columns_of columns) _ _)
+    (others ∙ ap (λ x. columns_joined x (from leaf (later_triples (cells_of (drop 1 cs)) f (d + 1) (k + 1)))) first ∙ adds_again leaf (borrowed_columns columns) _ _)
 
 -- ---- entries of a map
 
@@ -197,18 +197,18 @@ pub rows_loop : (fs : Fields) (rows : List Row) (i : ℕ) (row : Row) (columns m
 rows_loop fs rows i row columns more total h is added p =
     let es : rows_of (drop i rows) ≡ one_cell (group (cells_of row.cells.items)) (rows_of (drop (i + 1) rows)) = rw add-one (rows_of-drop_suc rows i row h is) in
     let fits : MatchEach (cells_of row.cells.items) fs × MatchAll (rows_of (drop (i + 1) rows)) (root fs) = rw es at p.fits in
-    let are : columns_joined (columns_of columns) (from 0 (columns_joined (group_triples (cells_of row.cells.items) fs 0 0 0) (later_triples (rows_of (drop (i + 1) rows)) (root fs) 0 0))) ≡ total = rw es at p.columns_are in
+    let are : columns_joined (borrowed_columns columns) (from 0 (columns_joined (group_triples (cells_of row.cells.items) fs 0 0 0) (later_triples (rows_of (drop (i + 1) rows)) (root fs) 0 0))) ≡ total = rw es at p.columns_are in
     record {
-      columns_are = ap (λ x. columns_joined x (from 0 (later_triples (rows_of (drop (i + 1) rows)) (root fs) 0 0))) added ∙ adds_again 0 (columns_of columns) _ _ ∙ are;
+      columns_are = ap (λ x. columns_joined x (from 0 (later_triples (rows_of (drop (i + 1) rows)) (root fs) 0 0))) added ∙ adds_again 0 (borrowed_columns columns) _ _ ∙ are;
       fits = fits.1;
     }
 
 pub rows_end : (fs : Fields) (rows : List Row) (i : ℕ) (columns : List (Vec BorrowedTriple Global)) (total : List Column)
-    → length rows ≤ i → RowsPending columns fs (drop i rows) total → columns_of columns ≡ total
+    → length rows ≤ i → RowsPending columns fs (drop i rows) total → borrowed_columns columns ≡ total
 rows_end fs rows i columns total h p =
     let e : drop i rows ≡ [] = drop_all i rows h in
-    let are : columns_joined (columns_of columns) [] ≡ total = rw e at p.columns_are in
-    sym (joined-nothing (columns_of columns)) ∙ are
+    let are : columns_joined (borrowed_columns columns) [] ≡ total = rw e at p.columns_are in
+    sym (joined-nothing (borrowed_columns columns)) ∙ are
 
 pub pair_ends : (cs : List Cell) (f : Field) (a b : Cell) (columns between more : List (Vec BorrowedTriple Global)) (leaf value r d k : ℕ)
     → MatchEach (cells_of cs) (one_field key (one_field f no_fields)) → a ≡ get_or cs 0 a → b ≡ get_or cs 1 b
@@ -220,7 +220,7 @@ pair_ends (x ∷ y ∷ z ∷ cs) f a b columns between more leaf value r d k h e
 pair_ends (x ∷ y ∷ []) f a b columns between more leaf value r d k h ea eb first moved second =
     let one : length (cell_triples (datum_of x) key r d k) ≡ 1 = length-cell_triples (datum_of x) key r d k h.0 in
     rw (append-nil (cell_triples (datum_of y) f r d k))
-    (second ∙ ap (λ z. columns_joined (columns_of between) (from value (cell_triples (datum_of z) f r d k))) eb
-    ∙ ap (λ w. columns_joined (columns_of between) (from w (cell_triples (datum_of y) f r d k))) moved
-    ∙ ap (λ m. columns_joined m (from (leaf + 1) (cell_triples (datum_of y) f r d k))) (first ∙ ap (λ z. columns_joined (columns_of columns) (from leaf (cell_triples (datum_of z) key r d k))) ea)
-    ∙ adds_beside leaf 1 (columns_of columns) _ _ one)
+    (second ∙ ap (λ z. columns_joined (borrowed_columns between) (from value (cell_triples (datum_of z) f r d k))) eb
+    ∙ ap (λ w. columns_joined (borrowed_columns between) (from w (cell_triples (datum_of y) f r d k))) moved
+    ∙ ap (λ m. columns_joined m (from (leaf + 1) (cell_triples (datum_of y) f r d k))) (first ∙ ap (λ z. columns_joined (borrowed_columns columns) (from leaf (cell_triples (datum_of z) key r d k))) ea)
+    ∙ adds_beside leaf 1 (borrowed_columns columns) _ _ one)

@@ -2,7 +2,7 @@
 use Rattle.std.proofs.Common.{◌≡◌, ◌+◌, ◌*◌, ◌<◌, ◌≤◌, Bool, true, false, cond, ◌&&◌, arith}
 use Rattle.dk_pqmodel.specs.Shape.{Shape, leaf, group, list, map_of, Field, field, Fields, no_fields, one_field, width_of, deepest_at, deepest_in, deepest_of}
 use Rattle.dk_pqmodel.specs.Schema.{has_fields, are_distinct, is_sound_shape, is_sound, are_sound, levels_at, levels_in, levels_of, IsSchema}
-use Rattle.dk_levels.specs.Solid.{IsSolidShape, IsSolid, AreSolid, IsReadable}
+use Rattle.dk_levels.specs.Solid.{IsSolidShape, IsSolid, AreSolid, AreReadable}
 use Rattle.dk_levels.proofs.Begins.{wide}
 use Rattle.dk_levels.proofs.Takes.{both_true}
 
@@ -50,7 +50,7 @@ mutual
   deep_fields no_fields = omega arith
   deep_fields (one_field f fs) = omega (arith, deep_field f, deep_fields fs)
 
-pub readable : (fs : Fields) → IsSchema fs → IsReadable fs
+pub readable : (fs : Fields) → IsSchema fs → AreReadable fs
 readable fs h =
     let solid : AreSolid fs = solid_fields fs h.sound in record {
       wide = some_wide fs h.some solid;

@@ -3,7 +3,7 @@ use Rattle.std.proofs.Common.{◌≡◌, ℕ, zero, suc, ◌<◌, List, [], ◌�
 use Rattle.std.proofs.lemmas.List.{append-nil, map-append}
 use Rattle.dk_pqmodel.specs.Shape.{width_at}
 use Rattle.dk_pqmodel.specs.NodeView.{shape_of}
-use Rattle.dk_levels.specs.Borrowed.{columns_of, column_of, triple_of}
+use Rattle.dk_levels.specs.Borrowed.{borrowed_columns, borrowed_column, borrowed_triple}
 use Rattle.dk_levels.specs.declared.borrowed.BorrowedTriple.{BorrowedTriple}
 use Rattle.dk_pqmodel.specs.declared.node.NodeKind.{NodeKind, Flag, Int32, Int64, Chars}
 use Rattle.dk_levels.specs.Places.{Adds}
@@ -12,11 +12,11 @@ use Rattle.dk_levels.proofs.Joins.{joined-nothing}
 
 -- a push to one column
 pub pushed : (cs : List (Vec BorrowedTriple Global)) (i : ℕ) (d new : Vec BorrowedTriple Global) (t : BorrowedTriple)
-    → i < length cs → new.items ≡ (get_or cs i d).items ++ t ∷ [] → Adds i cs (set cs i new) ((triple_of t ∷ []) ∷ [])
+    → i < length cs → new.items ≡ (get_or cs i d).items ++ t ∷ [] → Adds i cs (set cs i new) ((borrowed_triple t ∷ []) ∷ [])
 pushed [] i d new t h e = absurd (omega arith)
 pushed (c ∷ cs) zero d new t h e =
-    cc (joined-nothing (columns_of cs), map-append triple_of c.items (t ∷ []), ap (map triple_of) e)
-pushed (c ∷ cs) (suc i) d new t h e = cc (append-nil (column_of c), pushed cs i d new t (omega arith) e)
+    cc (joined-nothing (borrowed_columns cs), map-append borrowed_triple c.items (t ∷ []), ap (map borrowed_triple) e)
+pushed (c ∷ cs) (suc i) d new t h e = cc (append-nil (borrowed_column c), pushed cs i d new t (omega arith) e)
 
 pub width_of_leaf : (k : NodeKind) → (k ≡ Flag) ⊎ ((k ≡ Int32) ⊎ ((k ≡ Int64) ⊎ (k ≡ Chars))) → width_at (shape_of k) ≡ 1
 width_of_leaf k (inl e) = rw e (ap width_at shape_of-Flag)

@@ -7,17 +7,17 @@ use Rattle.dk_levels.specs.declared.borrowed.BorrowedValue.{BorrowedValue}
 use Rattle.dk_levels.specs.declared.borrowed.BorrowedValue.TheVariants as value
 use Rattle.dk_levels.specs.declared.borrowed.BorrowedTriple.{BorrowedTriple}
 
-abbrev pub value_of : BorrowedValue → Option cell.Value
-value_of value.Null = None
-value_of (value.Flag b) = Some (cell.flag b)
-value_of (value.Int n) = Some (cell.int n)
-value_of (value.Chars s) = Some (cell.chars s.now)
+abbrev pub borrowed_value : BorrowedValue → Option cell.Value
+borrowed_value value.Null = None
+borrowed_value (value.Flag b) = Some (cell.flag b)
+borrowed_value (value.Int n) = Some (cell.int n)
+borrowed_value (value.Chars s) = Some (cell.chars s.now)
 
-abbrev pub triple_of : BorrowedTriple → Triple
-triple_of t = record { repetition = t.repetition; definition = t.definition; value = value_of t.value }
+abbrev pub borrowed_triple : BorrowedTriple → Triple
+borrowed_triple t = record { repetition = t.repetition; definition = t.definition; value = borrowed_value t.value }
 
-abbrev pub column_of : Vec BorrowedTriple Global → Column
-column_of v = map triple_of v.items
+abbrev pub borrowed_column : Vec BorrowedTriple Global → Column
+borrowed_column v = map borrowed_triple v.items
 
-abbrev pub columns_of : List (Vec BorrowedTriple Global) → List Column
-columns_of vs = map column_of vs
+abbrev pub borrowed_columns : List (Vec BorrowedTriple Global) → List Column
+borrowed_columns vs = map borrowed_column vs

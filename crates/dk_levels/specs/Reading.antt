@@ -14,12 +14,12 @@ abbrev pub head_is : (Triple → Bool) → Column → Bool
 head_is p [] = false
 head_is p (e ∷ es) = p e
 
-abbrev pub column_at : List Column → ℕ → Column
-column_at cs place = slice_index_or cs place []
+abbrev pub column_of_place : List Column → ℕ → Column
+column_of_place cs place = slice_index_or cs place []
 
 -- whether the column at the place begins with such a triple
 abbrev pub begins : (Triple → Bool) → List Column → ℕ → Bool
-begins p cs place = head_is p (column_at cs place)
+begins p cs place = head_is p (column_of_place cs place)
 
 abbrev pub at_definition : ℕ → Triple → Bool
 at_definition d e = e.definition == d
@@ -33,10 +33,10 @@ taken (e ∷ es) cs place = Some (e, slice_set cs place es)
 
 -- the first triple of the column, and the columns without it
 abbrev pub first_triple : List Column → ℕ → Option (Triple × List Column)
-first_triple cs place = taken (column_at cs place) cs place
+first_triple cs place = taken (column_of_place cs place) cs place
 
 abbrev pub column_length : List Column → ℕ → ℕ
-column_length cs place = length (column_at cs place)
+column_length cs place = length (column_of_place cs place)
 
 abbrev pub guarded : {A : Type 0} → Bool → A → Option A
 guarded true x = Some x

@@ -17,7 +17,7 @@ abbrev mutual
   AreSolid (one_field f fs) = IsSolid f × AreSolid fs
 
 -- there is a column, each field has one, and the definition levels are bytes
-pub record IsReadable (fs : Fields) : Type 0 where
+pub record AreReadable (fs : Fields) : Type 0 where
   pub wide : 0 < width_of fs
   pub solid : AreSolid fs
   pub deep : deepest_of fs < 256

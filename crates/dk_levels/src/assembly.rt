@@ -9,7 +9,7 @@ ghost use Rattle.dk_pqmodel.specs.Shape.{width_of, root};
 ghost use Rattle.dk_pqmodel.specs.Datum.{Cells};
 ghost use Rattle.dk_pqmodel.specs.Fits.{AreTriplesOf};
 ghost use Rattle.dk_levels.specs.Reading.{begins, at_repetition, later_at, cell_at, rows_at, column_length, end_at};
-ghost use Rattle.dk_levels.specs.Solid.{IsReadable};
+ghost use Rattle.dk_levels.specs.Solid.{AreReadable};
 ghost use Rattle.dk_levels.specs.Fronts.{fronts};
 ghost use Rattle.dk_levels.specs.Answers.{GivesMeant, IsBrokenOrMemory};
 
@@ -40,7 +40,7 @@ pub fn assemble(alloc: Global, schema: &Schema, columns: &Columns) -> Result<Vec
 /// The same for nodes that needn't be a schema, as the part of a file's own schema that is wanted,
 /// and for columns that the caller gives up: their texts are moved into the rows.
 pub fn assemble_nodes(alloc: Global, nodes: &[Node], columns: Columns) -> Result<Vec<Row>, PqFault>
-    requires { IsReadable (fields_of nodes.now) }
+    requires { AreReadable (fields_of nodes.now) }
     ensures found { IfOk result (λ v. AreTriplesOf (fields_of nodes.now) (rows_of v.items) (columns_in columns)) }
     ensures only { (rows : Cells) → AreTriplesOf (fields_of nodes.now) rows (columns_in columns) → IfOk result (λ v. rows_of v.items ≡ rows) }
     ensures broken { IsErrOf result PqFault.Broken → (rows : Cells) → AreTriplesOf (fields_of nodes.now) rows (columns_in columns) → ⊥ }
@@ -50,7 +50,7 @@ pub fn assemble_nodes(alloc: Global, nodes: &[Node], columns: Columns) -> Result
 }
 
 fn read_all(nodes: &[Node], alloc: Global, columns: Columns) -> Result<Vec<Row>, PqFault>
-    requires { IsReadable (fields_of nodes.now) }
+    requires { AreReadable (fields_of nodes.now) }
     ensures { GivesMeant (λ v. rows_of v.items) result (rows_at (fields_of nodes.now) (columns_in columns)) }
 {
     let mut rest = columns.leaves;
@@ -62,7 +62,7 @@ fn read_all(nodes: &[Node], alloc: Global, columns: Columns) -> Result<Vec<Row>,
 }
 
 fn read_to_end(nodes: &[Node], alloc: Global, rest: &mut [Vec<Triple>]) -> Result<Vec<Row>, PqFault>
-    requires readable { IsReadable (fields_of nodes.now) }
+    requires readable { AreReadable (fields_of nodes.now) }
     requires room { width_of (fields_of nodes.now) ≤ length rest.old }
     ensures { GivesMeant (λ v. rows_of v.items) result (end_at (fields_of nodes.now) (fronts rest.old)) }
 {
@@ -75,7 +75,7 @@ fn read_to_end(nodes: &[Node], alloc: Global, rest: &mut [Vec<Triple>]) -> Resul
 }
 
 fn read_rows(nodes: &[Node], alloc: Global, rest: &mut [Vec<Triple>]) -> Result<Vec<Row>, PqFault>
-    requires readable { IsReadable (fields_of nodes.now) }
+    requires readable { AreReadable (fields_of nodes.now) }
     requires room { width_of (fields_of nodes.now) ≤ length rest.old }
     ensures { GivesMeant (λ v. (rows_of v.items, fronts rest.new)) result
         (later_at (cell_at (root (fields_of nodes.now)) 0 0 0 0) (λ ds. begins (at_repetition 0) ds 0) (column_length (fronts rest.old) 0) (fronts rest.old)) }

@@ -2,7 +2,7 @@
 
 ghost use Rattle.std.specs.Prelude.{◌≡◌, IfOk, map, option_map};
 ghost use Rattle.dk_pqmodel.specs.ColumnView.{columns_in, column_of as owned_column_of, triple_of as owned_triple_of, value_of as owned_value_of};
-ghost use Rattle.dk_levels.specs.Borrowed.{columns_of, triple_of, value_of};
+ghost use Rattle.dk_levels.specs.Borrowed.{borrowed_columns, borrowed_triple, borrowed_value};
 
 use dk_pqmodel::{Columns, Triple, Value};
 use std::alloc::{AllocError, Global};
@@ -32,7 +32,7 @@ pub(crate) fn owned_columns(
     alloc: Global,
     columns: &[Vec<BorrowedTriple<'_>>],
 ) -> Result<Columns, AllocError>
-    ensures { IfOk result (λ c. columns_in c ≡ columns_of columns.now) }
+    ensures { IfOk result (λ c. columns_in c ≡ borrowed_columns columns.now) }
 {
     let mut leaves = Vec::with_capacity(alloc, columns.len())?;
     for column in columns {
@@ -42,7 +42,7 @@ pub(crate) fn owned_columns(
 }
 
 fn owned_column(alloc: Global, column: &[BorrowedTriple<'_>]) -> Result<Vec<Triple>, AllocError>
-    ensures { IfOk result (λ v. owned_column_of v ≡ map triple_of column.now) }
+    ensures { IfOk result (λ v. owned_column_of v ≡ map borrowed_triple column.now) }
 {
     let mut out = Vec::with_capacity(alloc, column.len())?;
     for triple in column {
@@ -52,7 +52,7 @@ fn owned_column(alloc: Global, column: &[BorrowedTriple<'_>]) -> Result<Vec<Trip
 }
 
 fn owned_triple(alloc: Global, triple: &BorrowedTriple<'_>) -> Result<Triple, AllocError>
-    ensures { IfOk result (λ t. owned_triple_of t ≡ triple_of triple.now) }
+    ensures { IfOk result (λ t. owned_triple_of t ≡ borrowed_triple triple.now) }
 {
     Ok(Triple {
         repetition: triple.repetition,
@@ -62,7 +62,7 @@ fn owned_triple(alloc: Global, triple: &BorrowedTriple<'_>) -> Result<Triple, Al
 }
 
 fn owned_value(alloc: Global, value: &BorrowedValue<'_>) -> Result<Option<Value>, AllocError>
-    ensures { IfOk result (λ v. option_map owned_value_of v ≡ value_of value.now) }
+    ensures { IfOk result (λ v. option_map owned_value_of v ≡ borrowed_value value.now) }
 {
     match value {
         BorrowedValue::Null => Ok(None),

@@ -2,7 +2,7 @@
 
 ghost use Rattle.std.specs.Prelude.{◌≡◌, ◌++◌, OnOk};
 ghost use Rattle.dk_pqmodel.specs.NodeView.{fields_of, shape_of};
-ghost use Rattle.dk_levels.specs.Borrowed.{columns_of};
+ghost use Rattle.dk_levels.specs.Borrowed.{borrowed_columns};
 ghost use Rattle.dk_pqmodel.specs.Shape.{width_at, width_of};
 ghost use Rattle.dk_pqmodel.specs.Triples.{empty_columns};
 
@@ -18,7 +18,7 @@ pub fn add_columns(
     nodes: &[Node],
     room: usize,
 ) -> Result<(), AllocError>
-    ensures { OnOk result (columns_of columns.new.items ≡ columns_of columns.old.items ++ empty_columns (width_of (fields_of nodes.now))) }
+    ensures { OnOk result (borrowed_columns columns.new.items ≡ borrowed_columns columns.old.items ++ empty_columns (width_of (fields_of nodes.now))) }
 {
     for node in nodes {
         add_kind(alloc, columns, &node.kind, room)?;
@@ -33,7 +33,7 @@ fn add_kind(
     kind: &NodeKind,
     room: usize,
 ) -> Result<(), AllocError>
-    ensures { OnOk result (columns_of columns.new.items ≡ columns_of columns.old.items ++ empty_columns (width_at (shape_of kind.now))) }
+    ensures { OnOk result (borrowed_columns columns.new.items ≡ borrowed_columns columns.old.items ++ empty_columns (width_at (shape_of kind.now))) }
 {
     match kind {
         NodeKind::Flag | NodeKind::Int32 | NodeKind::Int64 | NodeKind::Chars => {
@@ -55,7 +55,7 @@ fn add_column(
     columns: &mut Vec<Vec<BorrowedTriple<'_>>>,
     room: usize,
 ) -> Result<(), AllocError>
-    ensures { OnOk result (columns_of columns.new.items ≡ columns_of columns.old.items ++ empty_columns 1) }
+    ensures { OnOk result (borrowed_columns columns.new.items ≡ borrowed_columns columns.old.items ++ empty_columns 1) }
 {
     let column = Vec::with_capacity(alloc, room)?;
     columns.push(column)?;

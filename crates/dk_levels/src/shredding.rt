@@ -8,7 +8,7 @@ ghost use Rattle.dk_pqmodel.specs.ColumnView.{columns_in};
 ghost use Rattle.dk_pqmodel.specs.Shape.{width_of, deepest_of, root};
 ghost use Rattle.dk_pqmodel.specs.Triples.{triples, later_triples};
 ghost use Rattle.dk_pqmodel.specs.Fits.{AreRowsOf};
-ghost use Rattle.dk_levels.specs.Borrowed.{columns_of};
+ghost use Rattle.dk_levels.specs.Borrowed.{borrowed_columns};
 ghost use Rattle.dk_levels.specs.Places.{Adds};
 
 use crate::borrowed::{BorrowedTriple, owned_columns};
@@ -39,7 +39,7 @@ pub fn shred_borrowed<'a>(
     rows: &'a [Row],
 ) -> Result<Vec<Vec<BorrowedTriple<'a>>>, AllocError>
     requires { AreRowsOf (fields_in schema.now) (rows_of rows.now) }
-    ensures { IfOk result (λ v. columns_of v.items ≡ triples (fields_in schema.now) (rows_of rows.now)) }
+    ensures { IfOk result (λ v. borrowed_columns v.items ≡ triples (fields_in schema.now) (rows_of rows.now)) }
 {
     let mut columns = Vec::new(alloc);
     add_columns(alloc, &mut columns, &schema.nodes, rows.len())?;

@@ -5,7 +5,7 @@
 ghost use Rattle.std.specs.Prelude.{◌≡◌, ◌+◌, ◌<◌, ◌≤◌, length, drop, IfOk, OnOk, [], ◌∷◌};
 ghost use Rattle.dk_pqmodel.specs.NodeView.{field_of, fields_of, shape_of};
 ghost use Rattle.dk_pqmodel.specs.RowView.{datum_of, cells_of};
-ghost use Rattle.dk_levels.specs.Borrowed.{value_of};
+ghost use Rattle.dk_levels.specs.Borrowed.{borrowed_value};
 ghost use Rattle.dk_pqmodel.specs.Shape.{width_at, width_in, width_of, deepest_in, deepest_of, entry, shape_in, key, one_field, no_fields};
 ghost use Rattle.dk_pqmodel.specs.Triples.{nothing, cell_triples, group_triples, later_triples, list_triples};
 ghost use Rattle.dk_pqmodel.specs.Fits.{Matches, MatchEach, MatchAll};
@@ -25,7 +25,7 @@ fn push<'a>(
 ) -> Result<usize, AllocError>
     requires { leaf < length columns.old }
     ensures next { IfOk result (λ n. n ≡ leaf + 1) }
-    ensures added { OnOk result (Adds leaf columns.old columns.new ((record { repetition = levels.repetition; definition = levels.definition; value = value_of value.entry } ∷ []) ∷ [])) }
+    ensures added { OnOk result (Adds leaf columns.old columns.new ((record { repetition = levels.repetition; definition = levels.definition; value = borrowed_value value.entry } ∷ []) ∷ [])) }
 {
     columns[leaf].push(BorrowedTriple {
         repetition: levels.repetition,

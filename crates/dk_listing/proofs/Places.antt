@@ -11,7 +11,7 @@ use Rattle.dk_store.specs.Objects.{object}
 use Rattle.dk_paths.specs.declared.log_name.LogName.{LogName}
 use Rattle.dk_paths.specs.declared.log_name.LogName.TheVariants as names
 use Rattle.dk_paths.specs.Numbers.{digits, id_text}
-use Rattle.dk_paths.specs.Names.{IsName, IsNameOf, part_pair, spelling, name_of}
+use Rattle.dk_paths.specs.Names.{IsName, IsNameOf, part_pair, spelling, log_name_of}
 use Rattle.dk_paths.specs.Places.{log_front}
 use Rattle.dk_paths.proofs.Meanings.{IsNameOf-known}
 use Rattle.dk_listing.proofs.Standing.{is_slash, lists_name, no_slash_in_digits, no_slash_in_commit, no_slash_in_id}
@@ -49,14 +49,14 @@ true_or false = refl
 
 -- one of the entries has a text whose meaning passes the test
 abbrev HasText : (LogName → Bool) → List Listed → Type 0
-HasText test entries = (text : List ℕ) × (test (name_of text) ≡ true) × (list_any (λ (entry : Listed). bytes_eq entry.name text) entries ≡ true)
+HasText test entries = (text : List ℕ) × (test (log_name_of text) ≡ true) × (list_any (λ (entry : Listed). bytes_eq entry.name text) entries ≡ true)
 
-any_text : (test : LogName → Bool) (entries : List Listed) → list_any (λ (entry : Listed). test (name_of entry.name)) entries ≡ true → HasText test entries
+any_text : (test : LogName → Bool) (entries : List Listed) → list_any (λ (entry : Listed). test (log_name_of entry.name)) entries ≡ true → HasText test entries
 any_text test [] is = absurd (true≢false (sym is))
-any_text test (entry ∷ entries) is = by (test (name_of entry.name)) refl is (any_text test entries)
+any_text test (entry ∷ entries) is = by (test (log_name_of entry.name)) refl is (any_text test entries)
   where
-    by : (here : Bool) → test (name_of entry.name) ≡ here → (here || list_any (λ (x : Listed). test (name_of x.name)) entries) ≡ true
-        → (list_any (λ (x : Listed). test (name_of x.name)) entries ≡ true → HasText test entries) → HasText test (entry ∷ entries)
+    by : (here : Bool) → test (log_name_of entry.name) ≡ here → (here || list_any (λ (x : Listed). test (log_name_of x.name)) entries) ≡ true
+        → (list_any (λ (x : Listed). test (log_name_of x.name)) entries ≡ true → HasText test entries) → HasText test (entry ∷ entries)
     by true passes any later =
         (entry.name, passes, ap (λ (b : Bool). b || list_any (λ (x : Listed). bytes_eq x.name entry.name) entries) ((bytes_eq-Decides entry.name entry.name).1 refl))
     by false passes any later =
@@ -84,7 +84,7 @@ of_text events test text names.Other other says passes is = absurd (true≢false
 
 -- where a test of names that no other name passes is passed in the log's folder, the object of a name that passes it stands
 pub listed_stands : (events : List Told) (test : LogName → Bool) → test names.Other ≡ false
-    → list_any (λ (entry : Listed). test (name_of entry.name)) (listing events (codes "_delta_log") []) ≡ true → (name : LogName) × (test name ≡ true) × Stands events name
+    → list_any (λ (entry : Listed). test (log_name_of entry.name)) (listing events (codes "_delta_log") []) ≡ true → (name : LogName) × (test name ≡ true) × Stands events name
 listed_stands events test other is =
     let found = any_text test (listing events (codes "_delta_log") []) is in
-    of_text events test found.0 (name_of found.0) other (IsNameOf-known found.0 (name_of found.0) refl) found.1 found.2
+    of_text events test found.0 (log_name_of found.0) other (IsNameOf-known found.0 (log_name_of found.0) refl) found.1 found.2

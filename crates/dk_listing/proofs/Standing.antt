@@ -18,7 +18,7 @@ use Rattle.dk_store.proofs.Lookups.{get-standings, same_version}
 use Rattle.dk_paths.specs.declared.log_name.LogName.{LogName}
 use Rattle.dk_paths.specs.declared.log_name.LogName.TheVariants as names
 use Rattle.dk_paths.specs.Numbers.{digits, id_text}
-use Rattle.dk_paths.specs.Names.{commit_name, name_of}
+use Rattle.dk_paths.specs.Names.{commit_name, log_name_of}
 use Rattle.dk_paths.specs.Places.{Commit_at, Staged, ends_in_parquet, sidecar_name}
 use Rattle.dk_paths.specs.Staged.{IsStaged, IsStagedNameOf, staged_name, staged_of}
 use Rattle.dk_paths.proofs.Meanings.{name_of-commit_name, named_commit, both, both-is}
@@ -112,7 +112,7 @@ lists_name events folder name plain =
 
 -- ---- commits
 
-commit_read : (version : ℕ) (text : List ℕ) (name : LogName) → name_of text ≡ name → is_at (Commit_at version) name ≡ true → text ≡ commit_name version
+commit_read : (version : ℕ) (text : List ℕ) (name : LogName) → log_name_of text ≡ name → is_at (Commit_at version) name ≡ true → text ≡ commit_name version
 commit_read version text (names.Commit v) is h = elim (eqb_tells v version) [
   | inl t ↦ (named_commit text v is).written ∙ ap commit_name t.1
   | inr f ↦ absurd (true≢false (sym h ∙ f.0))
@@ -126,18 +126,18 @@ commit_read version text names.Hint is h = absurd (true≢false (sym h))
 commit_read version text names.Other is h = absurd (true≢false (sym h))
 
 -- a name means a version's commit exactly where it is its name
-is_commit : (version : ℕ) → version < 2 ^ 63 → (text : List ℕ) → is_at (Commit_at version) (name_of text) ≡ bytes_eq text (commit_name version)
+is_commit : (version : ℕ) → version < 2 ^ 63 → (text : List ℕ) → is_at (Commit_at version) (log_name_of text) ≡ bytes_eq text (commit_name version)
 is_commit version small text = same_from_decides _ _ (
-  commit_read version text (name_of text) refl,
-  λ e. ap (λ (name : LogName). is_at (Commit_at version) name) (ap name_of e ∙ name_of-commit_name version small) ∙ eq-eqb version version refl,
+  commit_read version text (log_name_of text) refl,
+  λ e. ap (λ (name : LogName). is_at (Commit_at version) name) (ap log_name_of e ∙ name_of-commit_name version small) ∙ eq-eqb version version refl,
 )
     (bytes_eq-Decides text (commit_name version))
 
 -- a commit is among the names of the log's folder exactly where it stands
 pub commit_listed : (events : List Told) (version : ℕ) → version < 2 ^ 63
-    → list_any (λ (entry : Listed). is_at (Commit_at version) (name_of entry.name)) (listing events (codes "_delta_log") []) ≡ stands_at events (Commit_at version)
+    → list_any (λ (entry : Listed). is_at (Commit_at version) (log_name_of entry.name)) (listing events (codes "_delta_log") []) ≡ stands_at events (Commit_at version)
 commit_listed events version small =
-    any_same (λ (entry : Listed). is_at (Commit_at version) (name_of entry.name)) (λ (entry : Listed). bytes_eq entry.name (commit_name version)) (λ entry. is_commit version small entry.name) (listing events (codes "_delta_log") [])
+    any_same (λ (entry : Listed). is_at (Commit_at version) (log_name_of entry.name)) (λ (entry : Listed). bytes_eq entry.name (commit_name version)) (λ entry. is_commit version small entry.name) (listing events (codes "_delta_log") [])
     ∙ lists_name events (codes "_delta_log") (commit_name version) (no_slash_in_commit version)
 
 -- a commit is listed exactly where it stands

@@ -2,7 +2,7 @@
 ghost use Rattle.std.specs.Prelude.{◌≡◌, ◌<◌, ◌^◌, All, IfOk, map, true};
 ghost use Rattle.std.specs.List.{filter_map};
 ghost use Rattle.dk_store.specs.Views.{listed};
-ghost use Rattle.dk_paths.specs.Names.{name_of};
+ghost use Rattle.dk_paths.specs.Names.{log_name_of};
 ghost use Rattle.dk_listing.specs.Entries.{in_log, in_staged, named_entry, staged_entry};
 ghost use Rattle.dk_listing.specs.Newest.{is_rising, version_named};
 
@@ -14,7 +14,7 @@ use std::alloc::{AllocError, Global};
 /// What a name means, whose numbers it may have.
 #[tactic(auto, using(crate::proofs::Rising::name_rises))]
 fn read_rising(text: &str) -> LogName
-    ensures named { result ≡ name_of text.now }
+    ensures named { result ≡ log_name_of text.now }
     ensures small { version_named result < 2 ^ 63 }
     ensures rising { is_rising result ≡ true }
 {

@@ -1,7 +1,7 @@
 -- A dictionary page has no encodings of levels of its own: they count as RLE.
 use Rattle.std.proofs.Common.{◌≡◌, ℕ, Bool, true, false, cond, ℤ, pos, Option, Some, None, List, refl, sym, ap, subst, ◌∙◌}
 use Rattle.std.specs.Ordering.{int_eq}
-use Rattle.dk_grammar.specs.Structs.{Listed, last_under}
+use Rattle.dk_grammar.specs.Structs.{FieldValues, last_under}
 use Rattle.dk_grammar.specs.PageHeaders.{Part, numbers_in, inner_under}
 use Rattle.dk_pqmodel.specs.Headers.{page_header_of, inner_header, data_header, dictionary_header, data_header_v2, rle}
 use Rattle.dk_pqmodel.specs.Footer.{◌>=◌, int32, natural32}
@@ -42,7 +42,7 @@ has_rle size (Some a) (Some b) said h = subst HasRle (some_is _ said h) (refl, r
 has_rle size None b said h = absurd (none_is_not_some said h)
 has_rle size (Some a) None said h = absurd (none_is_not_some said h)
 
-typed_rle : (type : ℤ) (size : ℕ) (v1 entries v2 : Listed ℤ) (said : PageHeader) → inner_header type size v1 entries v2 ≡ Some said → said.kind ≡ Dictionary → HasRle said
+typed_rle : (type : ℤ) (size : ℕ) (v1 entries v2 : FieldValues ℤ) (said : PageHeader) → inner_header type size v1 entries v2 ≡ Some said → said.kind ≡ Dictionary → HasRle said
 typed_rle type size v1 entries v2 said h is = by_type (int_eq type (pos 0)) (int_eq type (pos 2)) (int_eq type (pos 3)) h
   where
     by_type : (a b c : Bool)
@@ -57,7 +57,7 @@ typed_rle type size v1 entries v2 said h is = by_type (int_eq type (pos 0)) (int
         (let k = not_v2 size (last_under (pos 1) v2 >= natural32) (last_under (pos 4) v2 >= int32) (last_under (pos 5) v2 >= natural32) (last_under (pos 6) v2 >= natural32) said e in cc)
     by_type false false false e = absurd (none_is_not_some said e)
 
-header_rle : (parts : Listed Part) (said : PageHeader) → page_header_of parts ≡ Some said → said.kind ≡ Dictionary → HasRle said
+header_rle : (parts : FieldValues Part) (said : PageHeader) → page_header_of parts ≡ Some said → said.kind ≡ Dictionary → HasRle said
 header_rle parts said h is =
     let own = numbers_in parts in
     let v1 = inner_under (pos 5) parts in

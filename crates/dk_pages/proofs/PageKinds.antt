@@ -3,7 +3,7 @@ use Rattle.std.proofs.Common.{◌≡◌, ℕ, ◌^◌, ◌<◌, ◌⊎◌, inl, 
 use Rattle.std.specs.Ordering.{int_eq}
 use Rattle.std.proofs.lemmas.Bool.{ltb-true, lt-ltb}
 use Rattle.std.proofs.lemmas.Bool.Decides.{Decides-int_eq}
-use Rattle.dk_grammar.specs.Structs.{Listed, last_under}
+use Rattle.dk_grammar.specs.Structs.{FieldValues, last_under}
 use Rattle.dk_grammar.specs.PageHeaders.{Part, numbers_in, inner_under, SpellsHeader}
 use Rattle.dk_pqmodel.specs.Footer.{◌>=◌, int32, natural32}
 use Rattle.dk_pqmodel.specs.Headers.{data_header, data_header_v2, dictionary_header, inner_header, page_header_of, rle}
@@ -54,46 +54,46 @@ page_of_kind kind values encoding rep_code def_code rep_bytes def_bytes body nex
 abbrev v1_rep : ℕ → ℕ → ℤ → ℤ → ℤ → Option PageHeader
 v1_rep size values encoding def_code rep_code = Some (header_with DataV1 size values encoding rep_code def_code 0 0)
 
-abbrev v1_def : ℕ → Listed ℤ → ℕ → ℤ → ℤ → Option PageHeader
+abbrev v1_def : ℕ → FieldValues ℤ → ℕ → ℤ → ℤ → Option PageHeader
 v1_def size numbers values encoding def_code = option_and_then (v1_rep size values encoding def_code) (last_under (pos 4) numbers >= int32)
 
-abbrev v1_encoding : ℕ → Listed ℤ → ℕ → ℤ → Option PageHeader
+abbrev v1_encoding : ℕ → FieldValues ℤ → ℕ → ℤ → Option PageHeader
 v1_encoding size numbers values encoding = option_and_then (v1_def size numbers values encoding) (last_under (pos 3) numbers >= int32)
 
-abbrev v1_values : ℕ → Listed ℤ → ℕ → Option PageHeader
+abbrev v1_values : ℕ → FieldValues ℤ → ℕ → Option PageHeader
 v1_values size numbers values = option_and_then (v1_encoding size numbers values) (last_under (pos 2) numbers >= int32)
 
 abbrev v2_rep : ℕ → ℕ → ℤ → ℕ → ℕ → Option PageHeader
 v2_rep size values encoding def_bytes rep_bytes = Some (header_with DataV2 size values encoding rle rle rep_bytes def_bytes)
 
-abbrev v2_def : ℕ → Listed ℤ → ℕ → ℤ → ℕ → Option PageHeader
+abbrev v2_def : ℕ → FieldValues ℤ → ℕ → ℤ → ℕ → Option PageHeader
 v2_def size numbers values encoding def_bytes = option_and_then (v2_rep size values encoding def_bytes) (last_under (pos 6) numbers >= natural32)
 
-abbrev v2_encoding : ℕ → Listed ℤ → ℕ → ℤ → Option PageHeader
+abbrev v2_encoding : ℕ → FieldValues ℤ → ℕ → ℤ → Option PageHeader
 v2_encoding size numbers values encoding = option_and_then (v2_def size numbers values encoding) (last_under (pos 5) numbers >= natural32)
 
-abbrev v2_values : ℕ → Listed ℤ → ℕ → Option PageHeader
+abbrev v2_values : ℕ → FieldValues ℤ → ℕ → Option PageHeader
 v2_values size numbers values = option_and_then (v2_encoding size numbers values) (last_under (pos 4) numbers >= int32)
 
 abbrev entry_encoding : ℕ → ℕ → ℤ → Option PageHeader
 entry_encoding size values encoding = Some (header_with Dictionary size values encoding rle rle 0 0)
 
-abbrev entry_values : ℕ → Listed ℤ → ℕ → Option PageHeader
+abbrev entry_values : ℕ → FieldValues ℤ → ℕ → Option PageHeader
 entry_values size numbers values = option_and_then (entry_encoding size values) (last_under (pos 2) numbers >= int32)
 
-abbrev v1_header : ℕ → Listed ℤ → Option PageHeader
+abbrev v1_header : ℕ → FieldValues ℤ → Option PageHeader
 v1_header n numbers = data_header n (last_under (pos 1) numbers) (last_under (pos 2) numbers) (last_under (pos 3) numbers) (last_under (pos 4) numbers)
 
-abbrev v2_header : ℕ → Listed ℤ → Option PageHeader
+abbrev v2_header : ℕ → FieldValues ℤ → Option PageHeader
 v2_header n numbers = data_header_v2 n (last_under (pos 1) numbers) (last_under (pos 4) numbers) (last_under (pos 5) numbers) (last_under (pos 6) numbers)
 
-abbrev entry_header : ℕ → Listed ℤ → Option PageHeader
+abbrev entry_header : ℕ → FieldValues ℤ → Option PageHeader
 entry_header n numbers = dictionary_header n (last_under (pos 1) numbers) (last_under (pos 2) numbers)
 
 -- ---- what a page's header says
 
 -- a data page of the first version
-pub record SaysV1 (parts : Listed Part) (body : List ℕ) (page : Page) : Type 0 where
+pub record SaysV1 (parts : FieldValues Part) (body : List ℕ) (page : Page) : Type 0 where
   pub type : last_under (pos 1) (numbers_in parts) ≡ Some (pos 0)
   pub size : (last_under (pos 3) (numbers_in parts) >= natural32) ≡ Some (length body)
   pub values : (last_under (pos 1) (inner_under (pos 5) parts) >= natural32) ≡ Some page.values
@@ -104,7 +104,7 @@ pub record SaysV1 (parts : Listed Part) (body : List ℕ) (page : Page) : Type 0
   pub held : page.body ≡ body
 
 -- one of the second version
-pub record SaysV2 (parts : Listed Part) (body : List ℕ) (page : Page) : Type 0 where
+pub record SaysV2 (parts : FieldValues Part) (body : List ℕ) (page : Page) : Type 0 where
   pub type : last_under (pos 1) (numbers_in parts) ≡ Some (pos 3)
   pub size : (last_under (pos 3) (numbers_in parts) >= natural32) ≡ Some (length body)
   pub values : (last_under (pos 1) (inner_under (pos 8) parts) >= natural32) ≡ Some page.values
@@ -115,7 +115,7 @@ pub record SaysV2 (parts : Listed Part) (body : List ℕ) (page : Page) : Type 0
   pub held : page.body ≡ body
 
 -- a dictionary page
-pub record SaysDictionary (parts : Listed Part) (body : List ℕ) (page : Page) : Type 0 where
+pub record SaysDictionary (parts : FieldValues Part) (body : List ℕ) (page : Page) : Type 0 where
   pub type : last_under (pos 1) (numbers_in parts) ≡ Some (pos 2)
   pub size : (last_under (pos 3) (numbers_in parts) >= natural32) ≡ Some (length body)
   pub values : (last_under (pos 1) (inner_under (pos 7) parts) >= natural32) ≡ Some page.values
@@ -123,10 +123,10 @@ pub record SaysDictionary (parts : Listed Part) (body : List ℕ) (page : Page) 
   pub kind : page.kind ≡ Dictionary
   pub held : page.body ≡ body
 
-abbrev pub SaysKind : Listed Part → List ℕ → Page → Type 0
+abbrev pub SaysKind : FieldValues Part → List ℕ → Page → Type 0
 SaysKind parts body page = SaysV1 parts body page ⊎ (SaysDictionary parts body page ⊎ SaysV2 parts body page)
 
-module _ (parts : Listed Part) (body : List ℕ) (next : ℕ) (said : PageHeader) (size : length body ≡ said.size) where
+module _ (parts : FieldValues Part) (body : List ℕ) (next : ℕ) (said : PageHeader) (size : length body ≡ said.size) where
   abbrev Said : Type 0
   Said = SaysKind parts body (page_with said body next)
 
@@ -219,7 +219,7 @@ page_kind bytes place page at =
 
 -- ---- and what says so is such a page
 
-module _ (bytes front header body more : List ℕ) (parts : Listed Part) (whole : bytes ≡ front ++ (header ++ (body ++ more))) (spelled : SpellsHeader header parts) where
+module _ (bytes front header body more : List ℕ) (parts : FieldValues Part) (whole : bytes ≡ front ++ (header ++ (body ++ more))) (spelled : SpellsHeader header parts) where
   stands : (said : PageHeader) → page_header_of parts ≡ Some said → length body ≡ said.size → IsPageAt bytes (length front) (page_with said body (length (front ++ (header ++ body))))
   stands said means size = record {
     front = front;

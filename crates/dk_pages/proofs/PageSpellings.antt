@@ -4,7 +4,7 @@ use Rattle.std.proofs.Math.Seq.{take-append_seam, drop-append_seam}
 use Rattle.std.proofs.lemmas.List.{take-append-drop, length-append, length-take-le}
 use Rattle.std.proofs.lemmas.Bool.{leb-true, le-leb}
 use Rattle.dk_grammar.specs.Thrift.{Front}
-use Rattle.dk_grammar.specs.Structs.{Listed, struct_at}
+use Rattle.dk_grammar.specs.Structs.{FieldValues, struct_at}
 use Rattle.dk_grammar.specs.PageHeaders.{Part, part_meaning, SpellsHeader, SpellsPart}
 use Rattle.dk_pqmodel.specs.Headers.{page_header_of, page_header_in, header_at}
 use Rattle.dk_pqmodel.specs.Pages.{Page, page_with, page_from, page_within, page_at}
@@ -30,7 +30,7 @@ pub when_is : {A : Type 0} (b : Bool) (x y : A) → cond b (Some x) None ≡ Som
 when_is true x y h = (refl, some_is x y h)
 when_is false x y h = absurd (none_is_not_some y h)
 
-header_found : (r : Front (Listed Part)) (x : PageHeader × List ℕ) → page_header_in r ≡ Some x → (parts : Listed Part) × ((r ≡ Ok (parts, x.1)) × (page_header_of parts ≡ Some x.0))
+header_found : (r : Front (FieldValues Part)) (x : PageHeader × List ℕ) → page_header_in r ≡ Some x → (parts : FieldValues Part) × ((r ≡ Ok (parts, x.1)) × (page_header_of parts ≡ Some x.0))
 header_found (Err flaw) x h = absurd (none_is_not_some x h)
 header_found (Ok y) x h =
     let z = map_bound (page_header_of y.0) (λ header. (header, y.1)) x h in
@@ -55,7 +55,7 @@ within front body more bytes start said e s size =
     rw (e, s, le-leb (length front + said.size) (length (front ++ (body ++ more))) room)
     (ap (λ part. Some (page_with said part (length front + said.size))) (middle front body more said.size size) ∙ ap (λ place. Some (page_with said body place)) next)
 
-page_spelled : (front header body more : List ℕ) (parts : Listed Part) (said : PageHeader) → SpellsHeader header parts → page_header_of parts ≡ Some said → length body ≡ said.size
+page_spelled : (front header body more : List ℕ) (parts : FieldValues Part) (said : PageHeader) → SpellsHeader header parts → page_header_of parts ≡ Some said → length body ≡ said.size
     → page_at (front ++ (header ++ (body ++ more))) (length front) ≡ Some (page_with said body (length (front ++ (header ++ body))))
 page_spelled front header body more parts said s m size =
     let whole : front ++ (header ++ (body ++ more)) ≡ (front ++ header) ++ (body ++ more) = sym (append_assoc front header (body ++ more)) in

@@ -24,8 +24,8 @@ all_of None = None
 all_of (Some x) = if length x.1 == 0 then Some x.0 else None
 
 -- the entries of a page, where its body is exactly as many as it says
-abbrev pub entries_of : Physical → Page → Option (List (List ℕ))
-entries_of kind page = all_of (entries_at kind page.values page.body)
+abbrev pub page_entries : Physical → Page → Option (List (List ℕ))
+page_entries kind page = all_of (entries_at kind page.values page.body)
 
 abbrev pub AnswersEntries : Result (List (List ℕ)) PqFault → Option (List (List ℕ)) → Type 0
 AnswersEntries (Ok entries) meaning = meaning ≡ Some entries

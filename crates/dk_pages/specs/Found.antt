@@ -3,11 +3,11 @@ use Rattle.std.specs.Prelude.{◌≡◌, Option, Result, Ok, Err, IsErr}
 use Rattle.dk_grammar.specs.Thrift.{Front}
 use Rattle.dk_thrift.specs.Reading.{Reading}
 use Rattle.dk_thrift.specs.declared.fault.ThriftFault.{ThriftFault}
-use Rattle.dk_grammar.specs.Structs.{Listed}
+use Rattle.dk_grammar.specs.Structs.{FieldValues}
 
 -- The fields are found, and the reader stands behind them; or there are none.
-abbrev pub ReadsFields : {V X : Type 0} → (Listed V → X) → Reading → Reading → Result X ThriftFault → Front (Listed V) → Type 0
-ReadsFields {V} view old new (Ok x) front = (values : Listed V) × ((front ≡ Ok (values, new.rest)) × (x ≡ view values) × (new.size ≡ old.size))
+abbrev pub ReadsFields : {V X : Type 0} → (FieldValues V → X) → Reading → Reading → Result X ThriftFault → Front (FieldValues V) → Type 0
+ReadsFields {V} view old new (Ok x) front = (values : FieldValues V) × ((front ≡ Ok (values, new.rest)) × (x ≡ view values) × (new.size ≡ old.size))
 ReadsFields view old new (Err fault) front = IsErr front
 
 -- One field's value is found, `Adds` holds of it, and the reader stands behind it; or there is none.

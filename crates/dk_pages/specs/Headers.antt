@@ -2,7 +2,7 @@
 use Rattle.std.specs.Prelude.{ℕ, ℤ, pos, Option, Some, None, unwrap_or}
 use Rattle.std.specs.Ordering.{int_eq}
 use Rattle.dk_grammar.specs.PageHeaders.{Part, number, inner, numbers_in, inner_under}
-use Rattle.dk_grammar.specs.Structs.{Listed, last_under, when, first_of_two}
+use Rattle.dk_grammar.specs.Structs.{FieldValues, last_under, when, first_of_two}
 use Rattle.dk_pqmodel.specs.Footer.{◌>=◌, natural32}
 use Rattle.dk_pqmodel.specs.Headers.{data_header, data_header_v2, dictionary_header, typed_header}
 use Rattle.dk_pqmodel.specs.declared.page.PageHeader.{PageHeader}
@@ -10,7 +10,7 @@ use Rattle.dk_pages.specs.declared.numbers.Numbers.{Numbers}
 use Rattle.dk_pages.specs.declared.fields.Fields.{Fields}
 
 -- numbers by the ids of their fields
-abbrev pub numbers_of : Listed ℤ → Numbers
+abbrev pub numbers_of : FieldValues ℤ → Numbers
 numbers_of numbers = record {
   field_1 = last_under (pos 1) numbers;
   field_2 = last_under (pos 2) numbers;
@@ -20,8 +20,8 @@ numbers_of numbers = record {
   field_6 = last_under (pos 6) numbers;
 }
 
-abbrev pub fields_of : Listed Part → Fields
-fields_of parts = record {
+abbrev pub header_fields : FieldValues Part → Fields
+header_fields parts = record {
   own = numbers_of (numbers_in parts);
   data_page = numbers_of (inner_under (pos 5) parts);
   dictionary_page = numbers_of (inner_under (pos 7) parts);

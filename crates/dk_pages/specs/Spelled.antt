@@ -1,6 +1,6 @@
 -- Where a page stands, apart from reading it.
 use Rattle.std.specs.Prelude.{◌≡◌, ℕ, Some, List, ◌++◌, length}
-use Rattle.dk_grammar.specs.Structs.{Listed}
+use Rattle.dk_grammar.specs.Structs.{FieldValues}
 use Rattle.dk_grammar.specs.PageHeaders.{Part, SpellsHeader}
 use Rattle.dk_pqmodel.specs.Headers.{page_header_of}
 use Rattle.dk_pqmodel.specs.Pages.{Page, page_with}
@@ -14,7 +14,7 @@ pub record IsPageAt (bytes : List ℕ) (place : ℕ) (page : Page) : Type 0 wher
   pub more : List ℕ
   pub whole : bytes ≡ front ++ (header ++ (body ++ more))
   pub begins : length front ≡ place
-  pub parts : Listed Part
+  pub parts : FieldValues Part
   pub spelled : SpellsHeader header parts
   pub said : PageHeader
   pub means : page_header_of parts ≡ Some said

@@ -36,7 +36,7 @@ impl<'a> Model for Dictionary<'a> {
 
 impl<'a> Dictionary<'a> {
     ghost use Rattle.std.specs.Prelude.{◌≡◌, option_map, slice_get};
-    ghost use Rattle.dk_pages.specs.Entries.{AnswersEntries, entries_of};
+    ghost use Rattle.dk_pages.specs.Entries.{AnswersEntries, page_entries};
     ghost use Rattle.dk_pages.specs.Pages.{page_of};
 
     /// The entries of the page (Apache Parquet, "Encodings", "Dictionary Encoding"), in the encoding PLAIN whatever the page names.
@@ -47,7 +47,7 @@ impl<'a> Dictionary<'a> {
         page: &PageView<'a>,
         kind: Physical,
     ) -> Result<Dictionary<'a>, PqFault>
-        ensures { AnswersEntries result (entries_of kind (page_of page.now)) }
+        ensures { AnswersEntries result (page_entries kind (page_of page.now)) }
     {
         let mut entries = Vec::new(alloc);
         let mut rest = page.body;

@@ -3,7 +3,7 @@
 ghost use Rattle.std.specs.Prelude.{◌≡◌, ◌&&◌, length};
 ghost use Rattle.dk_pages.specs.Found.{ReadsFields, ReadsValue};
 ghost use Rattle.dk_grammar.specs.PageHeaders.{is_inner, part_meaning};
-ghost use Rattle.dk_pages.specs.Headers.{fields_of, with_part};
+ghost use Rattle.dk_pages.specs.Headers.{header_fields, with_part};
 ghost use Rattle.dk_grammar.specs.Structs.{fields_from};
 
 use crate::numbers::{Numbers, read_number, read_numbers};
@@ -23,11 +23,11 @@ pub(crate) struct Fields {
 
 impl Fields {
     ghost use Rattle.std.specs.Prelude.{◌≡◌, []};
-    ghost use Rattle.dk_pages.specs.Headers.{fields_of, with_inner};
+    ghost use Rattle.dk_pages.specs.Headers.{header_fields, with_inner};
 
     /// No numbers.
     pub fn none() -> Fields
-        ensures { result ≡ fields_of [] }
+        ensures { result ≡ header_fields [] }
     {
         Fields {
             own: Numbers::none(),
@@ -52,7 +52,7 @@ impl Fields {
 
 /// The fields of a page header, up to its end.
 pub(crate) fn read_fields(reader: &mut Reader<'_>) -> Result<Fields, ThriftFault>
-    ensures { ReadsFields fields_of reader.old reader.new result (fields_from part_meaning (length reader.old.rest) reader.old.last reader.old.rest) }
+    ensures { ReadsFields header_fields reader.old reader.new result (fields_from part_meaning (length reader.old.rest) reader.old.last reader.old.rest) }
 {
     let mut fields = Fields::none();
     // Each field takes a byte at least.

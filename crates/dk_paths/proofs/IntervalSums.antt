@@ -11,7 +11,7 @@ use Rattle.std.proofs.lemmas.Int.{to_z_pos}
 use Rattle.std.proofs.lemmas.List.Folds.{list_all_more}
 use Rattle.std.proofs.lemmas.List.Sums.{sum_by-cons}
 use Rattle.std.proofs.lemmas.Int.Digits.{digits_value_more}
-use Rattle.dk_paths.specs.Intervals.{times, before, amount_of, unit_of, pair_values, sum_of_pairs}
+use Rattle.dk_paths.specs.Intervals.{times, before_pairs, amount_of, unit_of, pair_values, sum_of_pairs}
 use Rattle.dk_paths.proofs.Digits.{digit_of, is_digit}
 
 -- the sum of the pairs that are left, after `count` pairs of `total` milliseconds
@@ -29,7 +29,7 @@ sum_after-none (Some values) =
     rw (long, whole) refl
 
 -- one pair more
-pub sum_after-before : (count total value : ℕ) (values : Option (List ℕ)) → sum_after count total (before (Some value) values) ≡ sum_after (count + 1) (total + value) values
+pub sum_after-before : (count total value : ℕ) (values : Option (List ℕ)) → sum_after count total (before_pairs (Some value) values) ≡ sum_after (count + 1) (total + value) values
 unfolding sum_after
 sum_after-before count total value None = refl
 sum_after-before count total value (Some values) =
@@ -85,7 +85,7 @@ ends_alone count total number rest after whole first alone same =
 
 -- a pair, and what is left behind it
 pair_in : (count total : ℕ) (number unit : List ℕ) (rest after behind : List (List ℕ)) (whole : Option ℤ) → rest ≡ number ∷ after → after ≡ unit ∷ behind
-    → sum_after count total (pair_values rest) ≡ whole → sum_after count total (before (times (amount_of number) (unit_of unit)) (pair_values behind)) ≡ whole
+    → sum_after count total (pair_values rest) ≡ whole → sum_after count total (before_pairs (times (amount_of number) (unit_of unit)) (pair_values behind)) ≡ whole
 pair_in count total number unit rest after behind whole first second same =
     ap (λ (words : List (List ℕ)). sum_after count total (pair_values (number ∷ words))) (sym second)
     ∙ ap (λ (words : List (List ℕ)). sum_after count total (pair_values words)) (sym first) ∙ same
@@ -98,14 +98,14 @@ pub ends_number : (count total : ℕ) (number unit : List ℕ) (rest after behin
     → after ≡ unit ∷ behind → None ≡ amount_of number → sum_after count total (pair_values rest) ≡ whole → None ≡ whole
 ends_number count total number unit rest after behind whole first second none same =
     sym (no_pairs count total)
-    ∙ ap (λ (found : Option ℕ). sum_after count total (before (times found (unit_of unit)) (pair_values behind))) none
+    ∙ ap (λ (found : Option ℕ). sum_after count total (before_pairs (times found (unit_of unit)) (pair_values behind))) none
     ∙ pair_in count total number unit rest after behind whole first second same
 
 pub ends_unit : (count total : ℕ) (number unit : List ℕ) (rest after behind : List (List ℕ)) (whole : Option ℤ) → rest ≡ number ∷ after
     → after ≡ unit ∷ behind → None ≡ unit_of unit → sum_after count total (pair_values rest) ≡ whole → None ≡ whole
 ends_unit count total number unit rest after behind whole first second none same =
     sym (no_pairs count total)
-    ∙ ap (λ (found : Option ℕ). sum_after count total (before found (pair_values behind))) (sym (no_times (amount_of number) (unit_of unit) (sym none)))
+    ∙ ap (λ (found : Option ℕ). sum_after count total (before_pairs found (pair_values behind))) (sym (no_times (amount_of number) (unit_of unit) (sym none)))
     ∙ pair_in count total number unit rest after behind whole first second same
 
 pub goes_on : (count total n u : ℕ) (number unit : List ℕ) (rest after behind : List (List ℕ)) (whole : Option ℤ) → rest ≡ number ∷ after
@@ -113,8 +113,8 @@ pub goes_on : (count total n u : ℕ) (number unit : List ℕ) (rest after behin
     → sum_after (count + 1) (total + n * u) (pair_values behind) ≡ whole
 goes_on count total n u number unit rest after behind whole first second is_n is_u same =
     sym (sum_after-before count total (n * u) (pair_values behind))
-    ∙ ap (λ (found : Option ℕ). sum_after count total (before (times (Some n) found) (pair_values behind))) is_u
-    ∙ ap (λ (found : Option ℕ). sum_after count total (before (times found (unit_of unit)) (pair_values behind))) is_n
+    ∙ ap (λ (found : Option ℕ). sum_after count total (before_pairs (times (Some n) found) (pair_values behind))) is_u
+    ∙ ap (λ (found : Option ℕ). sum_after count total (before_pairs (times found (unit_of unit)) (pair_values behind))) is_n
     ∙ pair_in count total number unit rest after behind whole first second same
 
 pub ends_nine : (count total : ℕ) (values : Option (List ℕ)) (whole : Option ℤ) → count ≡ 9 → sum_after count total values ≡ whole → None ≡ whole

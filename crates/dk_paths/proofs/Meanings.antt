@@ -11,7 +11,7 @@ use Rattle.uuid.proofs.OrderLemmas.{from_be_bytes-to_be_bytes_16}
 use Rattle.dk_paths.specs.declared.log_name.LogName.{LogName}
 use Rattle.dk_paths.specs.declared.log_name.LogName.TheVariants.{Commit, Classic, Part, V2Json, V2Parquet, Compacted, Hint, Other}
 use Rattle.dk_paths.specs.Numbers.{digits, version_text, part_text, id_text, digits_at, uuid_at, id_of_bytes}
-use Rattle.dk_paths.specs.Names.{IsNameOf, IsName, is_name, spelling, part_pair, commit_name, candidate, if_spelled, name_of}
+use Rattle.dk_paths.specs.Names.{IsNameOf, IsName, is_name, spelling, part_pair, commit_name, candidate, if_spelled, log_name_of}
 use Rattle.dk_paths.proofs.Digits.{length-digits, take-digits, drop-digits, value-digits}
 use Rattle.dk_paths.proofs.Uuids.{length-id_text, parsed_hyphenated-id_text}
 use Rattle.dk_paths.proofs.Spelled.{version_small, part_small}
@@ -171,24 +171,24 @@ not_chosen true name no_test = absurd (no_test refl)
 not_chosen false name no_test = refl
 
 -- each name that is written is read as itself
-pub name_of-spelling : (name : LogName) → IsName name → name_of (spelling name) ≡ name
-unfolding name_of
+pub name_of-spelling : (name : LogName) → IsName name → log_name_of (spelling name) ≡ name
+unfolding log_name_of
 name_of-spelling name is =
     ap (λ (read : LogName). if_spelled read (spelling name)) (read_back name is)
     ∙ chosen _ name (spelled_test name (spelling name) (record { allowed = is; written = refl }))
 
 -- a text that spells a name names it
-pub name_of-spelled : (text : List ℕ) (name : LogName) → IsName name → spelling name ≡ text → name_of text ≡ name
-name_of-spelled text name is written = ap name_of (sym written) ∙ name_of-spelling name is
+pub name_of-spelled : (text : List ℕ) (name : LogName) → IsName name → spelling name ≡ text → log_name_of text ≡ name
+name_of-spelled text name is written = ap log_name_of (sym written) ∙ name_of-spelling name is
 
 -- a text that spells no name is another
-pub name_of-other : (text : List ℕ) → ((name : LogName) → IsName name → spelling name ≡ text → ⊥) → name_of text ≡ Other
-unfolding name_of
+pub name_of-other : (text : List ℕ) → ((name : LogName) → IsName name → spelling name ≡ text → ⊥) → log_name_of text ≡ Other
+unfolding log_name_of
 name_of-other text none = not_chosen _ (candidate (length text) text)
     (λ test. let spells = test_spells (candidate (length text) text) text test in none (candidate (length text) text) spells.allowed spells.written)
 
 -- what a text names is the one name that it says
-pub IsNameOf-one : (text : List ℕ) (name : LogName) → IsNameOf text name → name ≡ name_of text
+pub IsNameOf-one : (text : List ℕ) (name : LogName) → IsNameOf text name → name ≡ log_name_of text
 IsNameOf-one text (Commit v) names = sym (name_of-spelled text (Commit v) names.0 names.1)
 IsNameOf-one text (Classic v) names = sym (name_of-spelled text (Classic v) names.0 names.1)
 IsNameOf-one text (Part v part parts) names = sym (name_of-spelled text (Part v part parts) names.0 names.1)
@@ -210,7 +210,7 @@ names_by text Hint spells = (spells.allowed, spells.written)
 names_by text Other spells = absurd spells.allowed
 
 -- a text that names nothing spells no name
-nothing_spelled : (text : List ℕ) → name_of text ≡ Other → IsNameOf text Other
+nothing_spelled : (text : List ℕ) → log_name_of text ≡ Other → IsNameOf text Other
 nothing_spelled text other = λ name is written. subst IsName (sym (name_of-spelled text name is written) ∙ other) is
 
 named_by : (text : List ℕ) (test : Bool) (read : LogName) → (test ≡ true → Spells text read) → (test ≡ false → IsNameOf text Other)
@@ -219,25 +219,25 @@ named_by text true read spells none = names_by text read (spells refl)
 named_by text false read spells none = none refl
 
 -- each text says what it names
-pub IsNameOf-name_of : (text : List ℕ) → IsNameOf text (name_of text)
-unfolding name_of
+pub IsNameOf-name_of : (text : List ℕ) → IsNameOf text (log_name_of text)
+unfolding log_name_of
 IsNameOf-name_of text =
     let read = candidate (length text) text in
     named_by text (is_name read && bytes_eq (spelling read) text) read (test_spells read text)
     (λ failed. nothing_spelled text (not_chosen _ read (λ passed. true≢false (sym passed ∙ failed))))
 
 -- the same of a name that is known
-pub IsNameOf-known : (text : List ℕ) (name : LogName) → name_of text ≡ name → IsNameOf text name
+pub IsNameOf-known : (text : List ℕ) (name : LogName) → log_name_of text ≡ name → IsNameOf text name
 IsNameOf-known text name is = let P : LogName → Type 0 = IsNameOf text in subst P is (IsNameOf-name_of text)
 
 -- a commit's name names the commit, and what names a commit is its name
-pub name_of-commit_name : (version : ℕ) → version < 2 ^ 63 → name_of (commit_name version) ≡ Commit version
+pub name_of-commit_name : (version : ℕ) → version < 2 ^ 63 → log_name_of (commit_name version) ≡ Commit version
 name_of-commit_name version small = name_of-spelling (Commit version) small
 
 pub record IsCommitName (text : List ℕ) (version : ℕ) : Type 0 where
   pub small : version < 2 ^ 63
   pub written : text ≡ commit_name version
 
-pub named_commit : (text : List ℕ) (version : ℕ) → name_of text ≡ Commit version → IsCommitName text version
+pub named_commit : (text : List ℕ) (version : ℕ) → log_name_of text ≡ Commit version → IsCommitName text version
 named_commit text version is = let names = IsNameOf-known text (Commit version) is in
     record { small = names.0; written = sym names.1 }

@@ -5,7 +5,7 @@ use Rattle.std.proofs.lemmas.Bool.Decides.{Decides-eqb}
 use Rattle.dk_paths.specs.declared.log_name.LogName.{LogName}
 use Rattle.dk_paths.specs.declared.log_name.LogName.TheVariants as names
 use Rattle.dk_paths.specs.Numbers.{version_text}
-use Rattle.dk_paths.specs.Names.{IsNameOf, IsName, spelling, name_of}
+use Rattle.dk_paths.specs.Names.{IsNameOf, IsName, spelling, log_name_of}
 use Rattle.dk_paths.specs.Staged.{IsStagedNameOf, staged_name, staged_of}
 use Rattle.dk_paths.specs.Places.{Place, Commit_at, Classic, Part, V2, Compacted, Hint, Sidecar, Staged, Other, log_front, sidecar_front, staged_front, is_sidecar_name, place_path, behind_front, staged_place, place_in_folders, place_named, place_behind, place_of, IsPlace, PlaceOfPath, PathOfPlace}
 use Rattle.dk_paths.proofs.Spelled.{version_is_digits}
@@ -52,7 +52,7 @@ chosen true found other is = refl
 chosen false found other is = absurd (true≢false (sym is))
 
 -- the place of a name's path is that of the name
-pub place_of-named : (name : LogName) (rest : List ℕ) → name_of rest ≡ name → place_of (log_front ++ rest) ≡ place_named (log_front ++ rest) rest name
+pub place_of-named : (name : LogName) (rest : List ℕ) → log_name_of rest ≡ name → place_of (log_front ++ rest) ≡ place_named (log_front ++ rest) rest name
 unfolding place_of
 place_of-named name rest is = ap (place_named (log_front ++ rest) rest) is
 
@@ -117,7 +117,7 @@ of_name path rest names.Other split says is = of_folders path rest (behind_front
 of_rest : (path : List ℕ) (found : Option (List ℕ)) → behind_front log_front path ≡ found → place_of path ≡ place_behind path found
     → IsPlaceOf path (place_behind path found)
 of_rest path None split is = other path is
-of_rest path (Some rest) split is = of_name path rest (name_of rest) (behind_front-some log_front path rest split) (IsNameOf-known rest (name_of rest) refl) is
+of_rest path (Some rest) split is = of_name path rest (log_name_of rest) (behind_front-some log_front path rest split) (IsNameOf-known rest (log_name_of rest) refl) is
 
 is_place_of : (path : List ℕ) → IsPlaceOf path (place_of path)
 unfolding place_of

@@ -45,16 +45,16 @@ times (Some number) None = None
 times (Some number) (Some unit) = Some (number * unit)
 
 -- a pair's milliseconds before those of the pairs that follow
-abbrev pub before : Option ℕ → Option (List ℕ) → Option (List ℕ)
-before None values = None
-before (Some value) None = None
-before (Some value) (Some values) = Some (value ∷ values)
+abbrev pub before_pairs : Option ℕ → Option (List ℕ) → Option (List ℕ)
+before_pairs None values = None
+before_pairs (Some value) None = None
+before_pairs (Some value) (Some values) = Some (value ∷ values)
 
 -- the milliseconds of each pair
 abbrev pub pair_values : List (List ℕ) → Option (List ℕ)
 pair_values [] = Some []
 pair_values (number ∷ []) = None
-pair_values (number ∷ (unit ∷ rest)) = before (times (amount_of number) (unit_of unit)) (pair_values rest)
+pair_values (number ∷ (unit ∷ rest)) = before_pairs (times (amount_of number) (unit_of unit)) (pair_values rest)
 
 -- the sum of one to eight pairs
 abbrev pub sum_of_pairs : Option (List ℕ) → Option ℤ

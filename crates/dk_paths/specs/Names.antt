@@ -82,8 +82,8 @@ abbrev pub if_spelled : LogName → List ℕ → LogName
 if_spelled name text = if is_name name && bytes_eq (spelling name) text then name else Other
 
 -- what a text names
-unfoldable pub name_of : List ℕ → LogName
-name_of text = if_spelled (candidate (length text) text) text
+unfoldable pub log_name_of : List ℕ → LogName
+log_name_of text = if_spelled (candidate (length text) text) text
 
 -- a whole text that is a part number and the count of parts, or none
 abbrev pub ReadsPart : List ℕ → Option (ℕ × ℕ) → Type 0

@@ -4,7 +4,7 @@ use Rattle.std.specs.List.{list_any}
 use Rattle.std.specs.Str.{bytes_eq}
 use Rattle.dk_paths.specs.declared.log_name.LogName.{LogName}
 use Rattle.dk_paths.specs.declared.log_name.LogName.TheVariants as names
-use Rattle.dk_paths.specs.Names.{IsPart, spelling, name_of}
+use Rattle.dk_paths.specs.Names.{IsPart, spelling, log_name_of}
 use Rattle.dk_paths.specs.Numbers.{id_text}
 use Rattle.dk_paths.specs.Staged.{IsStaged, staged_name, staged_of}
 
@@ -83,7 +83,7 @@ place_named path rest names.Other = place_in_folders path (behind_front sidecar_
 
 abbrev pub place_behind : List ℕ → Option (List ℕ) → Place
 place_behind path None = Other path
-place_behind path (Some rest) = place_named path rest (name_of rest)
+place_behind path (Some rest) = place_named path rest (log_name_of rest)
 
 -- the place of a path
 unfoldable pub place_of : List ℕ → Place

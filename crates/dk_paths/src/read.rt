@@ -2,7 +2,7 @@
 
 ghost use Rattle.std.specs.Prelude.{◌≡◌, ◌++◌, ◌^◌, ◌<◌, codes};
 ghost use Rattle.dk_paths.specs.Numbers.{version_text};
-ghost use Rattle.dk_paths.specs.Names.{IsNameOf, IsReadBack, ReadsLast, ReadsPart, name_of};
+ghost use Rattle.dk_paths.specs.Names.{IsNameOf, IsReadBack, ReadsLast, ReadsPart, log_name_of};
 
 use crate::LogName;
 use crate::ids::read_id;
@@ -26,7 +26,7 @@ pub const DOT: &[u8] = b".";
 
 /// What a name of the log's folder means (Delta Lake's PROTOCOL.md, "Delta Log Entries", "Checkpoints"). It takes no memory.
 pub fn read_name(name: &str) -> LogName
-    ensures named { result ≡ name_of name.now }
+    ensures named { result ≡ log_name_of name.now }
     ensures exact { IsNameOf name.now result }
     ensures back { IsReadBack name.now result }
 {

@@ -6,7 +6,7 @@ use Rattle.indexmap.specs.IndexMap.{IndexMap, get}
 use Rattle.indexmap.specs.Layout.{hash_map}
 use Rattle.dk_pqmodel.specs.Projection.{Path}
 use Rattle.dk_pqmodel.specs.FileSchema.{FileNode, FileNodes, one_node, node_name}
-use Rattle.dk_pqmodel.specs.Footer.{◌>=◌, Chunk, ChunkFields, chunk_of, Element, each_of, is_path, has_path, has_name, is_new_each, are_new}
+use Rattle.dk_pqmodel.specs.Footer.{◌>=◌, Chunk, ChunkFields, chunk_of, Element, each_of, is_path, has_path, is_among_names, is_new_each, are_new}
 use Rattle.dk_pqmeta.specs.Trees.{each_node}
 use Rattle.dk_pqmeta.specs.View.{columns_behind, column_view, nodes_behind, nodes_of, node_of, node_step}
 use Rattle.dk_pqmeta.specs.declared.footer.Chunk as code
@@ -68,7 +68,7 @@ pub path_found : (path : Key) (es : List (Key × code.Chunk)) → is_some (get s
 path_found path [] = refl
 path_found path (e ∷ es) = some_or (same_key path e.0) e.1 (get same_key (with es) path) ∙ rw (paths_same path.items e.0.items, path_found path es) refl
 
-pub name_found : (name : Bor (List ℕ)) (keys : List (Bor (List ℕ))) → list_any (λ (k : Bor (List ℕ)). pointwise nat_eq name.now k.now) keys ≡ has_name name.now (map (λ (k : Bor (List ℕ)). k.now) keys)
+pub name_found : (name : Bor (List ℕ)) (keys : List (Bor (List ℕ))) → list_any (λ (k : Bor (List ℕ)). pointwise nat_eq name.now k.now) keys ≡ is_among_names name.now (map (λ (k : Bor (List ℕ)). k.now) keys)
 name_found name [] = refl
 name_found name (k ∷ ks) = ap (λ b. pointwise nat_eq name.now k.now || b) (name_found name ks)
 
@@ -81,10 +81,10 @@ pub nodes_of-drop : (ns : List node.FileNode) (i : ℕ) (n : node.FileNode) → 
 nodes_of-drop ns i n h e = rw add-one (nodes_of-drop_suc ns i n h e)
 
 module _ (before : List (List ℕ)) (nodes : FileNodes) (n : FileNode) (ns : FileNodes) (name : List ℕ) (whole : Bool) (opened : nodes ≡ one_node n ns) (named : node_name n ≡ name) (all : are_new before nodes ≡ whole) where
-  pub new_goes_on : has_name name before ≡ false → are_new (before ++ (name ∷ [])) ns ≡ whole
+  pub new_goes_on : is_among_names name before ≡ false → are_new (before ++ (name ∷ [])) ns ≡ whole
   new_goes_on h = sym (ap (are_new before) opened ∙ rw (named, h) refl) ∙ all
 
-  pub new_refused : has_name name before ≡ true → whole ≡ false
+  pub new_refused : is_among_names name before ≡ true → whole ≡ false
   new_refused h = sym all ∙ ap (are_new before) opened ∙ rw (named, h) refl
 
 pub name_of_node : (n : node.FileNode) → node_name (node_of n) ≡ string_bytes (out-FileNode n).name

@@ -12,7 +12,7 @@ use Rattle.dk_grammar.proofs.Spellings.{binaries}
 use Rattle.dk_grammar.proofs.StructSpellings.{structs, number_fields}
 use Rattle.dk_grammar.proofs.ListSpellings.{lists_by, turned_by, held_by}
 use Rattle.dk_pqmodel.specs.FileSchema.{FileNodes}
-use Rattle.dk_pqmodel.specs.Footer.{◌>=◌, Footer, RowGroup, FileFields, MeansFooter, meta_fields, chunk_fields, group_fields, element_fields, file_fields, each_of, element_of, group_of, natural}
+use Rattle.dk_pqmodel.specs.Footer.{◌>=◌, Footer, RowGroup, FileFields, MeansFooter, meta_fields, chunk_fields, group_fields, element_fields, file_fields, each_of, schema_element, group_of, natural}
 use Rattle.dk_pqmodel.specs.FooterBytes.{SpellsName, SpellsPath, SpellsMeta, SpellsChunk, SpellsGroup, SpellsElement, SpellsMetaData, SpellsFooter, HasFooter}
 use Rattle.dk_pqmeta.specs.Readings.{text_at, path_at, meta_meaning, meta_at, chunk_meaning, column_chunk_at, group_meaning, group_at, element_meaning, schema_element_at, file_meaning, file_at}
 use Rattle.dk_pqmeta.specs.Trees.{footer_from, tree_of}
@@ -83,17 +83,17 @@ footer_of rows fields groups = record { rows = rows; fields = fields; groups = g
 
 means_found : (file : FileFields) (footer : Footer) → footer_from file ≡ Some footer → MeansFooter file footer
 means_found file footer h =
-    let r = some_bound (file.rows >= natural) (λ rows. file.schema >= λ schema. file.groups >= λ groups. each_of element_of schema >= tree_of >= λ fields. each_of group_of groups >= λ groups.
+    let r = some_bound (file.rows >= natural) (λ rows. file.schema >= λ schema. file.groups >= λ groups. each_of schema_element schema >= tree_of >= λ fields. each_of group_of groups >= λ groups.
     Some (record { rows = rows; fields = fields; groups = groups })) footer h in
-    let s = some_bound file.schema (λ schema. file.groups >= λ groups. each_of element_of schema >= tree_of >= λ fields. each_of group_of groups >= λ groups.
+    let s = some_bound file.schema (λ schema. file.groups >= λ groups. each_of schema_element schema >= tree_of >= λ fields. each_of group_of groups >= λ groups.
     Some (record { rows = r.0; fields = fields; groups = groups })) footer r.1.1 in
-    let g = some_bound file.groups (λ groups. each_of element_of s.0 >= tree_of >= λ fields. each_of group_of groups >= λ groups. Some (record { rows = r.0; fields = fields; groups = groups })) footer s.1.1 in
-    let f = some_bound (each_of element_of s.0 >= tree_of) (λ fields. each_of group_of g.0 >= λ groups. Some (record { rows = r.0; fields = fields; groups = groups })) footer g.1.1 in
+    let g = some_bound file.groups (λ groups. each_of schema_element s.0 >= tree_of >= λ fields. each_of group_of groups >= λ groups. Some (record { rows = r.0; fields = fields; groups = groups })) footer s.1.1 in
+    let f = some_bound (each_of schema_element s.0 >= tree_of) (λ fields. each_of group_of g.0 >= λ groups. Some (record { rows = r.0; fields = fields; groups = groups })) footer g.1.1 in
     let k = some_bound (each_of group_of g.0) (λ groups. Some (record { rows = r.0; fields = f.0; groups = groups })) footer f.1.1 in
-    let e = some_bound (each_of element_of s.0) tree_of f.0 f.1.0 in
+    let e = some_bound (each_of schema_element s.0) tree_of f.0 f.1.0 in
     subst (MeansFooter file) (some_is (footer_of r.0 f.0 k.0) footer k.1.1) (record {
       elements = e.0;
-      schema = ap (λ o. o >= each_of element_of) s.1.0 ∙ e.1.0;
+      schema = ap (λ o. o >= each_of schema_element) s.1.0 ∙ e.1.0;
       tree = tree_found e.0 f.0 e.1.1;
       groups = ap (λ o. o >= each_of group_of) g.1.0 ∙ k.1.0;
       rows = r.1.0;
@@ -101,7 +101,7 @@ means_found file footer h =
 
 means_only : (file : FileFields) (footer : Footer) → MeansFooter file footer → footer_from file ≡ Some footer
 means_only file footer m =
-    let s = some_bound file.schema (each_of element_of) m.elements m.schema in
+    let s = some_bound file.schema (each_of schema_element) m.elements m.schema in
     let g = some_bound file.groups (each_of group_of) footer.groups m.groups in
     rw (m.rows, s.1.0, g.1.0, s.1.1, tree_only m.elements footer.fields m.tree, g.1.1) refl
 

@@ -1,7 +1,7 @@
 -- What functions over a reader find of a footer.
 use Rattle.std.specs.Prelude.{◌≡◌, ◌++◌, ℕ, Result, Ok, Err, IsErr}
 use Rattle.dk_grammar.specs.Thrift.{Front, ◌>>=◌}
-use Rattle.dk_grammar.specs.Structs.{Listed}
+use Rattle.dk_grammar.specs.Structs.{FieldValues}
 use Rattle.dk_thrift.specs.Reading.{Reading}
 use Rattle.dk_pqmeta.specs.declared.fault.MetaFault.{MetaFault}
 use Rattle.dk_pqmeta.specs.declared.fault.MetaFault.TheVariants.{Broken, OutOfMemory}
@@ -12,9 +12,9 @@ RefusesFront Broken front = IsErr front
 RefusesFront OutOfMemory front = Unit {0}
 
 -- The value that the bytes begin with is found, and the reader stands behind it; or there is none.
-abbrev pub Finds : {X Y : Type 0} → (X → Y) → Reading → Reading → Result X MetaFault → Front Y → Type 0
-Finds view old new (Ok x) front = (front ≡ Ok (view x, new.rest)) × (new ≡ record old { rest = new.rest })
-Finds view old new (Err fault) front = RefusesFront fault front
+abbrev pub FindsFront : {X Y : Type 0} → (X → Y) → Reading → Reading → Result X MetaFault → Front Y → Type 0
+FindsFront view old new (Ok x) front = (front ≡ Ok (view x, new.rest)) × (new ≡ record old { rest = new.rest })
+FindsFront view old new (Err fault) front = RefusesFront fault front
 
 -- The same of the fields of the current struct; where the reader stands in the struct isn't said.
 abbrev pub FindsFields : {X Y : Type 0} → (X → Y) → Reading → Reading → Result X MetaFault → Front Y → Type 0
@@ -27,5 +27,5 @@ FindsOne {V} Keeps old new (Ok _) front = (value : V) × ((front ≡ Ok (value, 
 FindsOne Keeps old new (Err fault) front = RefusesFront fault front
 
 -- what is kept of the fields
-abbrev pub kept_front : {V K : Type 0} → (Listed V → K) → Front (Listed V) → Front K
+abbrev pub kept_front : {V K : Type 0} → (FieldValues V → K) → Front (FieldValues V) → Front K
 kept_front kept_of front = front >>= λ x. Ok (kept_of x.0, x.1)

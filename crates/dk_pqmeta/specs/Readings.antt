@@ -3,7 +3,7 @@ use Rattle.std.specs.Prelude.{ℕ, if◌then◌else◌, ℤ, pos, Ok, List}
 use Rattle.std.specs.Str.{is_utf8}
 use Rattle.dk_grammar.specs.Thrift.{Front, ◌>>=◌, bad_at, binary_at}
 use Rattle.dk_grammar.specs.Structs.{Meaning, struct_at, number_meaning}
-use Rattle.dk_grammar.specs.Lists.{Either, list_of, held_or, turned}
+use Rattle.dk_grammar.specs.Lists.{Either, list_of, held_or, read_turned}
 use Rattle.dk_pqmodel.specs.Projection.{Path}
 use Rattle.dk_pqmodel.specs.Footer.{MetaFields, meta_fields, ChunkFields, chunk_fields, GroupFields, group_fields, ElementFields, element_fields, FileFields, file_fields}
 
@@ -19,28 +19,28 @@ abbrev pub meta_meaning : Meaning (Either Path ℤ)
 meta_meaning = held_or (pos 3) 9 path_at number_meaning
 
 abbrev pub meta_at : List ℕ → Front MetaFields
-meta_at = turned meta_fields (struct_at meta_meaning)
+meta_at = read_turned meta_fields (struct_at meta_meaning)
 
 abbrev pub chunk_meaning : Meaning (Either MetaFields ℤ)
 chunk_meaning = held_or (pos 3) 12 meta_at number_meaning
 
 abbrev pub column_chunk_at : List ℕ → Front ChunkFields
-column_chunk_at = turned chunk_fields (struct_at chunk_meaning)
+column_chunk_at = read_turned chunk_fields (struct_at chunk_meaning)
 
 abbrev pub group_meaning : Meaning (Either (List ChunkFields) ℤ)
 group_meaning = held_or (pos 1) 9 (list_of 12 column_chunk_at) number_meaning
 
 abbrev pub group_at : List ℕ → Front GroupFields
-group_at = turned group_fields (struct_at group_meaning)
+group_at = read_turned group_fields (struct_at group_meaning)
 
 abbrev pub element_meaning : Meaning (Either (List ℕ) ℤ)
 element_meaning = held_or (pos 4) 8 text_at number_meaning
 
 abbrev pub schema_element_at : List ℕ → Front ElementFields
-schema_element_at = turned element_fields (struct_at element_meaning)
+schema_element_at = read_turned element_fields (struct_at element_meaning)
 
 abbrev pub file_meaning : Meaning (Either (List ElementFields) (Either (List GroupFields) ℤ))
 file_meaning = held_or (pos 2) 9 (list_of 12 schema_element_at) (held_or (pos 4) 9 (list_of 12 group_at) number_meaning)
 
 abbrev pub file_at : List ℕ → Front FileFields
-file_at = turned file_fields (struct_at file_meaning)
+file_at = read_turned file_fields (struct_at file_meaning)

@@ -1,7 +1,7 @@
 -- The tree of the schema, from the flat list of its elements.
 use Rattle.std.specs.Prelude.{ℕ, zero, suc, ◌==◌, nat_le, if◌then◌else◌, ℤ, pos, negsuc, Option, Some, None, List, [], ◌∷◌, ◌++◌, length}
 use Rattle.dk_pqmodel.specs.FileSchema.{FileNode, file_node, FileNodes}
-use Rattle.dk_pqmodel.specs.Footer.{◌>=◌, Element, element_of, group_of, FileFields, Footer, each_of, natural, are_new, most_file_levels}
+use Rattle.dk_pqmodel.specs.Footer.{◌>=◌, Element, schema_element, group_of, FileFields, Footer, each_of, natural, are_new, most_file_levels}
 use Rattle.dk_pqmeta.specs.View.{nodes_of_list}
 
 -- 0 required, 1 optional, 2 repeated
@@ -42,5 +42,5 @@ tree_of (root ∷ es) = group_by (node_at most_file_levels) root.children es >= 
 -- the whole
 abbrev pub footer_from : FileFields → Option Footer
 footer_from file =
-    file.rows >= natural >= λ rows. file.schema >= λ schema. file.groups >= λ groups. each_of element_of schema >= tree_of >= λ fields. each_of group_of groups >= λ groups.
+    file.rows >= natural >= λ rows. file.schema >= λ schema. file.groups >= λ groups. each_of schema_element schema >= tree_of >= λ fields. each_of group_of groups >= λ groups.
     Some (record { rows = rows; fields = fields; groups = groups })

@@ -1,7 +1,7 @@
 //! An element of the flat list that spells the schema.
 
 ghost use Rattle.std.specs.Prelude.{◌≡◌};
-ghost use Rattle.dk_pqmodel.specs.Footer.{children_in, int32, optional};
+ghost use Rattle.dk_pqmodel.specs.Footer.{children_in, int32, absent_or};
 
 use crate::fault::MetaFault;
 use crate::numbers::{int32, natural32};
@@ -80,13 +80,13 @@ impl Record for Element {
 
 impl Element {
     ghost use Rattle.std.specs.Prelude.{◌≡◌, option_map};
-    ghost use Rattle.dk_pqmodel.specs.Footer.{element_of};
+    ghost use Rattle.dk_pqmodel.specs.Footer.{schema_element};
     ghost use Rattle.dk_pqmeta.specs.Kept.{element_kept};
     ghost use Rattle.dk_pqmeta.specs.View.{element_view};
 
     /// The element with its numbers in their ranges; `None` where its name isn't there, or a number is out of its range.
     pub fn into_schema(self) -> Option<SchemaElement>
-        ensures { option_map element_view result ≡ element_of (element_kept self) }
+        ensures { option_map element_view result ≡ schema_element (element_kept self) }
     {
         let physical = optional32(self.physical)?;
         let children = children(self.children)?;
@@ -102,7 +102,7 @@ impl Element {
 
 /// A number of 32 bits that may be absent.
 fn optional32(number: Option<i64>) -> Option<Option<i32>>
-    ensures { result ≡ optional int32 number }
+    ensures { result ≡ absent_or int32 number }
 {
     match number {
         None => Some(None),

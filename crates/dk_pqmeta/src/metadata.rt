@@ -84,13 +84,13 @@ impl Record for ColumnMetaData {
 
 impl ColumnMetaData {
     ghost use Rattle.std.specs.Prelude.{◌≡◌, option_map, map, string_bytes};
-    ghost use Rattle.dk_pqmodel.specs.Footer.{chunk_in, column_of};
+    ghost use Rattle.dk_pqmodel.specs.Footer.{chunk_in, column_chunk};
     ghost use Rattle.dk_pqmeta.specs.Kept.{meta_kept};
     ghost use Rattle.dk_pqmeta.specs.View.{chunk_view};
 
     /// The chunk with its column's path; `None` where a field that it needs isn't there, or isn't a number that it takes.
     pub fn into_column(self) -> Option<(Vec<String>, Chunk)>
-        ensures { option_map (λ x. (map string_bytes x.0.items, chunk_view x.1)) result ≡ column_of (meta_kept self) }
+        ensures { option_map (λ x. (map string_bytes x.0.items, chunk_view x.1)) result ≡ column_chunk (meta_kept self) }
     {
         let chunk = self.chunk()?;
         let path = self.path?;

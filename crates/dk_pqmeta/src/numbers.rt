@@ -1,7 +1,7 @@
 //! Numbers in their ranges.
 
 ghost use Rattle.std.specs.Prelude.{◌≡◌, option_and_then};
-ghost use Rattle.dk_pqmodel.specs.Footer.{int32, natural, natural32, place_of};
+ghost use Rattle.dk_pqmodel.specs.Footer.{int32, natural, natural32, file_place};
 
 /// A number of 32 bits.
 pub(crate) fn int32(number: Option<i64>) -> Option<i32>
@@ -36,7 +36,7 @@ pub(crate) fn natural32(number: i64) -> Option<u32>
 
 /// A place above 0.
 pub(crate) fn place(number: Option<i64>) -> Option<u64>
-    ensures { result ≡ option_and_then place_of number }
+    ensures { result ≡ option_and_then file_place number }
 {
     let value = number?;
     if 0 < value { Some(value as u64) } else { None }

@@ -1,7 +1,7 @@
 //! The footer of a file, from its bytes.
 
 ghost use Rattle.std.specs.Prelude.{map, option_and_then};
-ghost use Rattle.dk_pqmodel.specs.Footer.{each_of, element_of, group_of};
+ghost use Rattle.dk_pqmodel.specs.Footer.{each_of, schema_element, group_of};
 ghost use Rattle.dk_pqmeta.specs.Footers.{AnswersFooter, file_in};
 ghost use Rattle.dk_pqmeta.specs.Kept.{element_kept, file_kept, group_kept};
 ghost use Rattle.dk_pqmeta.specs.Trees.{footer_from};
@@ -87,7 +87,7 @@ fn make_footer(alloc: Global, file: FileMetaData) -> Result<Footer, MetaFault>
 }
 
 fn schema_elements(alloc: Global, schema: Vec<Element>) -> Result<Vec<SchemaElement>, MetaFault>
-    ensures { MakesOf (λ v. map element_view v.items) result (each_of element_of (map element_kept schema.items)) }
+    ensures { MakesOf (λ v. map element_view v.items) result (each_of schema_element (map element_kept schema.items)) }
 {
     let mut elements = Vec::new(alloc);
     for element in schema {

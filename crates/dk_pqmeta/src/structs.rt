@@ -1,9 +1,9 @@
 //! Structs of which some fields are kept, and lists of them.
 
 ghost use Rattle.std.specs.Prelude.{◌≡◌, ◌++◌, ℕ, [], List, length, map};
-ghost use Rattle.dk_grammar.specs.Structs.{Listed, Meaning, fields_from, struct_at, under};
-ghost use Rattle.dk_grammar.specs.Lists.{list_of, turned};
-ghost use Rattle.dk_pqmeta.specs.Found.{Finds, FindsFields, FindsOne, kept_front};
+ghost use Rattle.dk_grammar.specs.Structs.{FieldValues, Meaning, fields_from, struct_at, under};
+ghost use Rattle.dk_grammar.specs.Lists.{list_of, read_turned};
+ghost use Rattle.dk_pqmeta.specs.Found.{FindsFront, FindsFields, FindsOne, kept_front};
 
 use crate::fault::MetaFault;
 use crate::values::{STRUCT, may_hold};
@@ -22,7 +22,7 @@ pub(crate) trait Record: Drop + Sized {
 
     ghost kept: { Self → Kept };
 
-    ghost kept_of: { Listed Part → Kept };
+    ghost kept_of: { FieldValues Part → Kept };
 
     /// No field.
     fn none() -> Self
@@ -36,13 +36,13 @@ pub(crate) trait Record: Drop + Sized {
         id: i16,
         kind: u8,
     ) -> Result<(), MetaFault>
-        ensures { (done : Listed Part) → kept self.old ≡ kept_of done
+        ensures { (done : FieldValues Part) → kept self.old ≡ kept_of done
             → FindsOne (λ value. kept self.new ≡ kept_of (done ++ under id value [])) reader.old reader.new result (meaning id kind reader.old.rest) };
 }
 
 /// A struct.
 pub(crate) fn read_struct<R: Record>(alloc: Global, reader: &mut Reader<'_>) -> Result<R, MetaFault>
-    ensures { Finds R.kept reader.old reader.new result (turned R.kept_of (struct_at R.meaning) reader.old.rest) }
+    ensures { FindsFront R.kept reader.old reader.new result (read_turned R.kept_of (struct_at R.meaning) reader.old.rest) }
 {
     let outer = reader.enter();
     let record = read_fields(alloc, reader)?;
@@ -71,7 +71,7 @@ pub(crate) fn read_structs<R: Record>(
     alloc: Global,
     reader: &mut Reader<'_>,
 ) -> Result<Vec<R>, MetaFault>
-    ensures { Finds (λ v. map R.kept v.items) reader.old reader.new result (list_of 12 (turned R.kept_of (struct_at R.meaning)) reader.old.rest) }
+    ensures { FindsFront (λ v. map R.kept v.items) reader.old reader.new result (list_of 12 (read_turned R.kept_of (struct_at R.meaning)) reader.old.rest) }
 {
     let head = reader.list()?;
     if !may_hold(STRUCT, head) {

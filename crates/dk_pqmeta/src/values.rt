@@ -3,7 +3,7 @@
 ghost use Rattle.std.specs.Prelude.{◌≡◌, pos, string_bytes, map};
 ghost use Rattle.dk_grammar.specs.Structs.{number_meaning};
 ghost use Rattle.dk_grammar.specs.Lists.{is_held, may_hold};
-ghost use Rattle.dk_pqmeta.specs.Found.{Finds};
+ghost use Rattle.dk_pqmeta.specs.Found.{FindsFront};
 ghost use Rattle.dk_pqmeta.specs.Readings.{text_at, path_at};
 
 use crate::fault::MetaFault;
@@ -19,7 +19,7 @@ pub(crate) const STRUCT: u8 = 12;
 
 /// A text.
 pub(crate) fn read_name(alloc: Global, reader: &mut Reader<'_>) -> Result<String, MetaFault>
-    ensures { Finds string_bytes reader.old reader.new result (text_at reader.old.rest) }
+    ensures { FindsFront string_bytes reader.old reader.new result (text_at reader.old.rest) }
 {
     let bytes = reader.binary()?;
     match str::from_utf8(bytes) {
@@ -30,7 +30,7 @@ pub(crate) fn read_name(alloc: Global, reader: &mut Reader<'_>) -> Result<String
 
 /// The names of a path.
 pub(crate) fn read_path(alloc: Global, reader: &mut Reader<'_>) -> Result<Vec<String>, MetaFault>
-    ensures { Finds (λ v. map string_bytes v.items) reader.old reader.new result (path_at reader.old.rest) }
+    ensures { FindsFront (λ v. map string_bytes v.items) reader.old reader.new result (path_at reader.old.rest) }
 {
     let head = reader.list()?;
     if !may_hold(BINARY, head) {
@@ -46,7 +46,7 @@ pub(crate) fn read_path(alloc: Global, reader: &mut Reader<'_>) -> Result<Vec<St
 
 /// The value of a field, where it is a whole number; all else is passed over.
 pub(crate) fn read_number(reader: &mut Reader<'_>, kind: u8) -> Result<Option<i64>, MetaFault>
-    ensures { Finds (λ z. z) reader.old reader.new result (number_meaning (pos 0) kind reader.old.rest) }
+    ensures { FindsFront (λ z. z) reader.old reader.new result (number_meaning (pos 0) kind reader.old.rest) }
 {
     Ok(reader.number(kind)?)
 }

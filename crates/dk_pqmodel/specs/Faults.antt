@@ -53,7 +53,7 @@ pub record IsUnread (wanted : Fields) (bytes : List ℕ) (column : List ℕ) (co
   pub named : column ≡ dotted path
 
 -- None of all that stands against reading the file.
-pub record IsOpen (wanted : Fields) (bytes before : List ℕ) (footer : Footer) : Type 0 where
+pub record IsUnopposed (wanted : Fields) (bytes before : List ℕ) (footer : Footer) : Type 0 where
   pub part : List ℕ
   pub framed : IsFramed bytes before part
   pub spelled : SpellsFooter part footer

@@ -1,7 +1,7 @@
 -- What the pages of a chunk hold: the triples of a column (Apache Parquet, "Data Pages", "Encodings").
 use Rattle.std.specs.Prelude.{◌≡◌, ◌≤◌, ◌<◌, ◌+◌, ◌*◌, ◌^◌, ◌⊎◌, ◌↔◌, ℕ, Bool, IsTrue, ℤ, pos, Option, Some, None, List, [], ◌∷◌, ◌++◌, length, map, filter_map, replicate, is_some, slice_get, option_and_then, All}
 use Rattle.std.specs.Str.{is_utf8}
-use Rattle.dk_grammar.specs.Structs.{Listed, last_under}
+use Rattle.dk_grammar.specs.Structs.{FieldValues, last_under}
 use Rattle.dk_grammar.specs.PageHeaders.{Part, numbers_in, inner_under, SpellsHeader}
 use Rattle.dk_grammar.specs.Plain.{Plain, IsPlain, plain_values, bit_of, AreFlags, little}
 use Rattle.dk_grammar.specs.Plain as plain
@@ -115,14 +115,14 @@ AreFull column triples = All (IsFull column.def) triples × All (λ e. e.repetit
 -- ---- pages
 
 -- the last number of an id in a header, and in an inner header
-abbrev pub Says : Listed Part → ℤ → ℤ → Type 0
+abbrev pub Says : FieldValues Part → ℤ → ℤ → Type 0
 Says parts id z = last_under id (numbers_in parts) ≡ Some z
 
-abbrev pub SaysInside : Listed Part → ℤ → ℤ → ℤ → Type 0
+abbrev pub SaysInside : FieldValues Part → ℤ → ℤ → ℤ → Type 0
 SaysInside parts inner id z = last_under id (inner_under inner parts) ≡ Some z
 
 -- A header and a body of the size that field 3 says. The type is field 1.
-pub record IsPage (type : ℤ) (parts : Listed Part) (body bytes : List ℕ) : Type 0 where
+pub record IsPage (type : ℤ) (parts : FieldValues Part) (body bytes : List ℕ) : Type 0 where
   pub header : List ℕ
   pub whole : bytes ≡ header ++ body
   pub spelled : SpellsHeader header parts
@@ -139,7 +139,7 @@ pub record HoldTriples (column : ColumnAt) (dictionary : Option (List Value)) (c
 
 -- A data page of the first version, type 0: repetition levels, definition levels, values. Its inner header is field 5.
 pub record IsDataV1 (column : ColumnAt) (dictionary : Option (List Value)) (bytes : List ℕ) (triples : Column) : Type 0 where
-  pub parts : Listed Part
+  pub parts : FieldValues Part
   pub body : List ℕ
   pub page : IsPage (pos 0) parts body bytes
   pub count : SaysInside parts (pos 5) (pos 1) (pos (length triples))
@@ -160,7 +160,7 @@ pub record IsDataV1 (column : ColumnAt) (dictionary : Option (List Value)) (byte
 
 -- A data page of the second version, type 3: the same parts, whose lengths stand in the inner header, field 8.
 pub record IsDataV2 (column : ColumnAt) (dictionary : Option (List Value)) (bytes : List ℕ) (triples : Column) : Type 0 where
-  pub parts : Listed Part
+  pub parts : FieldValues Part
   pub body : List ℕ
   pub page : IsPage (pos 3) parts body bytes
   pub count : SaysInside parts (pos 8) (pos 1) (pos (length triples))
@@ -180,7 +180,7 @@ IsData column dictionary bytes triples = IsDataV1 column dictionary bytes triple
 
 -- A dictionary page, type 2: exactly its entries, in the encoding PLAIN. Its inner header is field 7.
 pub record IsDictionary (kind : Leaf) (bytes : List ℕ) (entries : List Value) : Type 0 where
-  pub parts : Listed Part
+  pub parts : FieldValues Part
   pub body : List ℕ
   pub page : IsPage (pos 2) parts body bytes
   pub count : SaysInside parts (pos 7) (pos 1) (pos (length entries))

@@ -2,7 +2,7 @@
 use Rattle.std.specs.Prelude.{◌≡◌, ◌≤◌, ◌==◌, ◌^◌, ◌+◌, ℕ, suc, max, nat_le, nat_lt, int_le, Bool, true, false, ◌&&◌, ◌||◌, not, if◌then◌else◌, IsTrue, ℤ, pos, negsuc, Option, Some, None, option_map, option_and_then, List, [], ◌∷◌, ◌++◌}
 use Rattle.std.specs.Cmp.Lexicographic.{pointwise}
 use Rattle.std.specs.Str.{bytes_eq}
-use Rattle.dk_grammar.specs.Structs.{Listed, last_under}
+use Rattle.dk_grammar.specs.Structs.{FieldValues, last_under}
 use Rattle.dk_grammar.specs.Lists.{Either, held_in, others_in}
 use Rattle.dk_pqmodel.specs.FileSchema.{FileNode, file_node, FileNodes, no_nodes, one_node, node_name}
 use Rattle.dk_pqmodel.specs.Projection.{Path}
@@ -55,14 +55,14 @@ natural32 (pos n) = if nat_lt n (2 ^ 31) then Some n else None
 natural32 (negsuc n) = None
 
 -- a place above 0
-abbrev pub place_of : ℤ → Option ℕ
-place_of (pos n) = if n == 0 then None else Some n
-place_of (negsuc n) = None
+abbrev pub file_place : ℤ → Option ℕ
+file_place (pos n) = if n == 0 then None else Some n
+file_place (negsuc n) = None
 
 -- a field that may be absent, but not wrong
-abbrev pub optional : {A B : Type 0} → (A → Option B) → Option A → Option (Option B)
-optional f None = Some None
-optional f (Some x) = option_map Some (f x)
+abbrev pub absent_or : {A B : Type 0} → (A → Option B) → Option A → Option (Option B)
+absent_or f None = Some None
+absent_or f (Some x) = option_map Some (f x)
 
 -- each turned; none where one can't be
 abbrev pub each_of : {A B : Type 0} → (A → Option B) → List A → Option (List B)
@@ -72,10 +72,10 @@ each_of f (x ∷ xs) = f x >= λ y. option_map (λ ys. y ∷ ys) (each_of f xs)
 -- ---- the fields of structs, by their names
 
 -- the value that a struct holds in the field of an id, and a number in one; of several it is the last
-abbrev pub held_under : {A B : Type 0} → ℤ → Listed (Either A B) → Option A
+abbrev pub held_under : {A B : Type 0} → ℤ → FieldValues (Either A B) → Option A
 held_under id fields = last_under id (held_in fields)
 
-abbrev pub number_under : {A : Type 0} → ℤ → Listed (Either A ℤ) → Option ℤ
+abbrev pub number_under : {A : Type 0} → ℤ → FieldValues (Either A ℤ) → Option ℤ
 number_under id fields = last_under id (others_in fields)
 
 -- ColumnMetaData
@@ -87,7 +87,7 @@ pub record MetaFields : Type 0 where
   pub first_page : Option ℤ
   pub dictionary_page : Option ℤ
 
-abbrev pub meta_fields : Listed (Either Path ℤ) → MetaFields
+abbrev pub meta_fields : FieldValues (Either Path ℤ) → MetaFields
 meta_fields fields = record {
   physical = number_under (pos 1) fields;
   path = held_under (pos 3) fields;
@@ -101,7 +101,7 @@ meta_fields fields = record {
 pub record ChunkFields : Type 0 where
   pub metadata : Option MetaFields
 
-abbrev pub chunk_fields : Listed (Either MetaFields ℤ) → ChunkFields
+abbrev pub chunk_fields : FieldValues (Either MetaFields ℤ) → ChunkFields
 chunk_fields fields = record { metadata = held_under (pos 3) fields }
 
 -- RowGroup
@@ -109,7 +109,7 @@ pub record GroupFields : Type 0 where
   pub columns : Option (List ChunkFields)
   pub rows : Option ℤ
 
-abbrev pub group_fields : Listed (Either (List ChunkFields) ℤ) → GroupFields
+abbrev pub group_fields : FieldValues (Either (List ChunkFields) ℤ) → GroupFields
 group_fields fields = record { columns = held_under (pos 1) fields; rows = number_under (pos 3) fields }
 
 -- SchemaElement
@@ -119,7 +119,7 @@ pub record ElementFields : Type 0 where
   pub name : Option (List ℕ)
   pub children : Option ℤ
 
-abbrev pub element_fields : Listed (Either (List ℕ) ℤ) → ElementFields
+abbrev pub element_fields : FieldValues (Either (List ℕ) ℤ) → ElementFields
 element_fields fields = record {
   physical = number_under (pos 1) fields;
   repetition = number_under (pos 3) fields;
@@ -133,7 +133,7 @@ pub record FileFields : Type 0 where
   pub rows : Option ℤ
   pub groups : Option (List GroupFields)
 
-abbrev pub file_fields : Listed (Either (List ElementFields) (Either (List GroupFields) ℤ)) → FileFields
+abbrev pub file_fields : FieldValues (Either (List ElementFields) (Either (List GroupFields) ℤ)) → FileFields
 file_fields fields = record {
   schema = held_under (pos 2) fields;
   rows = number_under (pos 3) (others_in fields);
@@ -146,14 +146,14 @@ file_fields fields = record {
 abbrev pub chunk_in : MetaFields → Option Chunk
 chunk_in meta =
     meta.physical >= int32 >= λ physical. meta.codec >= int32 >= λ codec. meta.values >= natural >= λ values. meta.first_page >= natural >= λ first_page.
-    Some (record { physical = physical; codec = codec; values = values; first_page = first_page; dictionary_page = meta.dictionary_page >= place_of })
+    Some (record { physical = physical; codec = codec; values = values; first_page = first_page; dictionary_page = meta.dictionary_page >= file_place })
 
 -- with its column's path
-abbrev pub column_of : MetaFields → Option (Path × Chunk)
-column_of meta = chunk_in meta >= λ chunk. meta.path >= λ path. Some (path, chunk)
+abbrev pub column_chunk : MetaFields → Option (Path × Chunk)
+column_chunk meta = chunk_in meta >= λ chunk. meta.path >= λ path. Some (path, chunk)
 
 abbrev pub chunk_of : ChunkFields → Option (Path × Chunk)
-chunk_of chunk = chunk.metadata >= column_of
+chunk_of chunk = chunk.metadata >= column_chunk
 
 abbrev pub is_path : Path → Path → Bool
 is_path = pointwise bytes_eq
@@ -181,9 +181,9 @@ abbrev pub children_in : Option ℤ → Option ℕ
 children_in None = Some 0
 children_in (Some z) = natural32 z
 
-abbrev pub element_of : ElementFields → Option Element
-element_of element =
-    optional int32 element.physical >= λ physical. children_in element.children >= λ children. element.name >= λ name.
+abbrev pub schema_element : ElementFields → Option Element
+schema_element element =
+    absent_or int32 element.physical >= λ physical. children_in element.children >= λ children. element.name >= λ name.
     Some (record { name = name; repetition = element.repetition; physical = physical; children = children })
 
 abbrev pub count_of : FileNodes → ℕ
@@ -200,14 +200,14 @@ abbrev mutual
   flat_of no_nodes = []
   flat_of (one_node n ns) = flat n ++ flat_of ns
 
-abbrev pub has_name : List ℕ → List (List ℕ) → Bool
-has_name name [] = false
-has_name name (n ∷ ns) = bytes_eq name n || has_name name ns
+abbrev pub is_among_names : List ℕ → List (List ℕ) → Bool
+is_among_names name [] = false
+is_among_names name (n ∷ ns) = bytes_eq name n || is_among_names name ns
 
 -- no two nodes of one name: each name is new, behind those before
 abbrev pub are_new : List (List ℕ) → FileNodes → Bool
 are_new before no_nodes = true
-are_new before (one_node n ns) = not (has_name (node_name n) before) && are_new (before ++ (node_name n ∷ [])) ns
+are_new before (one_node n ns) = not (is_among_names (node_name n) before) && are_new (before ++ (node_name n ∷ [])) ns
 
 -- each repetition is one of the three, and no two fields of a group have one name
 abbrev mutual
@@ -243,7 +243,7 @@ pub record IsTree (elements : List Element) (fields : FileNodes) : Type 0 where
 -- what the fields of a FileMetaData mean
 pub record MeansFooter (file : FileFields) (footer : Footer) : Type 0 where
   pub elements : List Element
-  pub schema : (file.schema >= each_of element_of) ≡ Some elements
+  pub schema : (file.schema >= each_of schema_element) ≡ Some elements
   pub tree : IsTree elements footer.fields
   pub groups : (file.groups >= each_of group_of) ≡ Some footer.groups
   pub rows : (file.rows >= natural) ≡ Some footer.rows

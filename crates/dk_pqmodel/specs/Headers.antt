@@ -3,7 +3,7 @@ use Rattle.std.specs.Prelude.{ℕ, if◌then◌else◌, ℤ, pos, Option, Some, 
 use Rattle.std.specs.Ordering.{int_eq}
 use Rattle.dk_grammar.specs.Thrift.{Front}
 use Rattle.dk_grammar.specs.PageHeaders.{Part, part_meaning, numbers_in, inner_under}
-use Rattle.dk_grammar.specs.Structs.{Listed, struct_at, last_under}
+use Rattle.dk_grammar.specs.Structs.{FieldValues, struct_at, last_under}
 use Rattle.dk_pqmodel.specs.Footer.{◌>=◌, int32, natural32}
 use Rattle.dk_pqmodel.specs.declared.page.PageHeader.{PageHeader}
 use Rattle.dk_pqmodel.specs.declared.page.PageKind.TheVariants.{DataV1, DataV2, Dictionary}
@@ -36,19 +36,19 @@ abbrev pub typed_header : ℤ → Option PageHeader → Option PageHeader → Op
 typed_header type first dictionary second = if int_eq type (pos 0) then first else if int_eq type (pos 2) then dictionary else if int_eq type (pos 3) then second else None
 
 -- PageHeader: field 1 is the type, field 3 the size of the body in the file; the inner headers are the fields 5, 7 and 8
-abbrev pub inner_header : ℤ → ℕ → Listed ℤ → Listed ℤ → Listed ℤ → Option PageHeader
+abbrev pub inner_header : ℤ → ℕ → FieldValues ℤ → FieldValues ℤ → FieldValues ℤ → Option PageHeader
 inner_header type size first dictionary second =
     typed_header type
     (data_header size (last_under (pos 1) first) (last_under (pos 2) first) (last_under (pos 3) first) (last_under (pos 4) first))
     (dictionary_header size (last_under (pos 1) dictionary) (last_under (pos 2) dictionary))
     (data_header_v2 size (last_under (pos 1) second) (last_under (pos 4) second) (last_under (pos 5) second) (last_under (pos 6) second))
 
-abbrev pub page_header_of : Listed Part → Option PageHeader
+abbrev pub page_header_of : FieldValues Part → Option PageHeader
 page_header_of parts =
     last_under (pos 1) (numbers_in parts) >= λ type. last_under (pos 3) (numbers_in parts) >= natural32 >= λ size.
     inner_header type size (inner_under (pos 5) parts) (inner_under (pos 7) parts) (inner_under (pos 8) parts)
 
-abbrev pub page_header_in : Front (Listed Part) → Option (PageHeader × List ℕ)
+abbrev pub page_header_in : Front (FieldValues Part) → Option (PageHeader × List ℕ)
 page_header_in (Err flaw) = None
 page_header_in (Ok x) = option_map (λ header. (header, x.1)) (page_header_of x.0)
 

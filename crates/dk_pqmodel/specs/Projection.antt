@@ -88,8 +88,8 @@ abbrev pub field_then : Option Field → Fields → Fields
 field_then None fs = fs
 field_then (Some f) fs = one_field f fs
 
-abbrev pub field_at : Bool → Shape → Option Field
-field_at b s = Some (field [] b s)
+abbrev pub unnamed_field : Bool → Shape → Option Field
+unnamed_field b s = Some (field [] b s)
 
 -- an entry as the file has it: its value may be missing
 abbrev pub file_entry : Bool → Option Field → Field
@@ -98,10 +98,10 @@ file_entry k v = field [] false (shape.group (one_field (field [] k (leaf chars)
 abbrev mutual
   pub projected_field : Plan → Option Field
   projected_field missing = None
-  projected_field (value b l path) = field_at b (leaf l)
-  projected_field (members b ps) = field_at b (shape.group (projected_fields ps))
+  projected_field (value b l path) = unnamed_field b (leaf l)
+  projected_field (members b ps) = unnamed_field b (shape.group (projected_fields ps))
   projected_field (elements b p) = option_map (λ f. field [] b (shape.list f)) (projected_field p)
-  projected_field (entries b k path p) = field_at b (shape.list (file_entry k (projected_field p)))
+  projected_field (entries b k path p) = unnamed_field b (shape.list (file_entry k (projected_field p)))
 
   pub projected_fields : Plans → Fields
   projected_fields no_plans = no_fields

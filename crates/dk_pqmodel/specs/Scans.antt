@@ -41,10 +41,10 @@ is_value_code int64 code = int_eq code (pos 0) || int_eq code (pos 2) || int_eq 
 is_value_code chars code = int_eq code (pos 0) || int_eq code (pos 2) || int_eq code (pos 8)
 
 -- a dictionary's entries are PLAIN, under either code
-abbrev pub is_read : PageKind → Leaf → ℤ → Bool
-is_read DataV1 kind code = is_value_code kind code
-is_read DataV2 kind code = is_value_code kind code
-is_read Dictionary kind code = int_eq code (pos 0) || int_eq code (pos 2)
+abbrev pub is_read_code : PageKind → Leaf → ℤ → Bool
+is_read_code DataV1 kind code = is_value_code kind code
+is_read_code DataV2 kind code = is_value_code kind code
+is_read_code Dictionary kind code = int_eq code (pos 0) || int_eq code (pos 2)
 
 abbrev pub unless : Bool → ℤ → Option ℤ
 unless b code = if b then None else Some code
@@ -56,14 +56,14 @@ is_level_code greatest code = (greatest == 0) || int_eq code (pos 3)
 -- the first encoding of a page that isn't read: of its values, of its repetition levels, of its definition levels
 abbrev pub unread_code : ColumnAt → Page → Option ℤ
 unread_code column page =
-    first_of_two (unless (is_read page.kind column.kind page.encoding) page.encoding)
+    first_of_two (unless (is_read_code page.kind column.kind page.encoding) page.encoding)
     (first_of_two (unless (is_level_code column.rep page.rep_code) page.rep_code) (unless (is_level_code column.def page.def_code) page.def_code))
 
 -- how many values of the column a page holds
-abbrev pub values_in : PageKind → ℕ → ℕ
-values_in DataV1 values = values
-values_in DataV2 values = values
-values_in Dictionary values = 0
+abbrev pub values_on_page : PageKind → ℕ → ℕ
+values_on_page DataV1 values = values
+values_on_page DataV2 values = values
+values_on_page Dictionary values = 0
 
 -- The pages from a place on are looked at as far as one stands there and data pages have had fewer values than are wanted. Each
 -- takes at least a byte, so there are at most as many as bytes.
@@ -71,7 +71,7 @@ abbrev pub unread_from : ℕ → List ℕ → ColumnAt → ℕ → ℕ → Optio
 unread_from zero before column place wanted = None
 unread_from (suc most) before column place wanted =
     if wanted == 0 then None else
-    option_and_then (λ page. first_of_two (unread_code column page) (unread_from most before column page.next (wanted - values_in page.kind page.values))) (page_at before place)
+    option_and_then (λ page. first_of_two (unread_code column page) (unread_from most before column page.next (wanted - values_on_page page.kind page.values))) (page_at before place)
 
 -- where a chunk's pages begin
 abbrev pub first_place : Chunk → ℕ

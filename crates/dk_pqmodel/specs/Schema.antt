@@ -1,7 +1,7 @@
 -- Which fields make a schema.
 use Rattle.std.specs.Prelude.{ℕ, ◌+◌, ◌≤◌, max, Bool, true, false, ◌&&◌, ◌||◌, not, IsTrue, List}
 use Rattle.std.specs.Str.{bytes_eq}
-use Rattle.dk_pqmodel.specs.Shape.{Shape, leaf, group, list, map_of, Field, field, Fields, no_fields, one_field, name_in}
+use Rattle.dk_pqmodel.specs.Shape.{Shape, leaf, group, list, map_of, Field, field, Fields, no_fields, one_field, field_name}
 
 abbrev pub has_fields : Fields → Bool
 has_fields no_fields = false
@@ -10,12 +10,12 @@ has_fields (one_field f fs) = true
 -- whether a field has the name
 abbrev pub is_named : List ℕ → Fields → Bool
 is_named name no_fields = false
-is_named name (one_field f fs) = bytes_eq name (name_in f) || is_named name fs
+is_named name (one_field f fs) = bytes_eq name (field_name f) || is_named name fs
 
 -- no two fields with one name
 abbrev pub are_distinct : Fields → Bool
 are_distinct no_fields = true
-are_distinct (one_field f fs) = not (is_named (name_in f) fs) && are_distinct fs
+are_distinct (one_field f fs) = not (is_named (field_name f) fs) && are_distinct fs
 
 -- each group inside has a field, and no two with one name
 abbrev mutual

@@ -34,8 +34,8 @@ entry value = field [] false (group (one_field key (one_field value no_fields)))
 abbrev pub root : Fields → Field
 root fs = field [] false (group fs)
 
-abbrev pub name_in : Field → List ℕ
-name_in (field name nullable s) = name
+abbrev pub field_name : Field → List ℕ
+field_name (field name nullable s) = name
 
 abbrev pub shape_in : Field → Shape
 shape_in (field name nullable s) = s

@@ -14,8 +14,8 @@ use Rattle.dk_pqmeta.specs.View.{group_view}
 use Rattle.dk_pqmeta.specs.declared.footer.RowGroup as code
 use Rattle.dk_pqmeta.proofs.Footers.{one_footer}
 use Rattle.dk_pqmeta.proofs.Framing.{framed_once}
-use Rattle.dk_pqmodel.specs.Faults.{IsOpen, IsRefused, columns_read}
-use Rattle.dk_pqread.specs.Meanings.{Refuses}
+use Rattle.dk_pqmodel.specs.Faults.{IsUnopposed, IsRefused, columns_read}
+use Rattle.dk_pqread.specs.Meanings.{RefusesMeaning}
 use Rattle.dk_pqmodel.specs.Reads.{IsBroken, Reads}
 use Rattle.dk_pqread.specs.RowsMeaning.{GroupsMean}
 use Rattle.dk_pqmodel.specs.Scans.{first_compressed, first_unread}
@@ -58,7 +58,7 @@ opening_refused wanted bytes Broken h = record {
   read = λ column code d. h.1 d.footer (d.before, d.part, d.framed, d.spelled);
 }
 
-module _ (wanted : Fields) (bytes before : List ℕ) (footer : Footer) (clear : IsOpen wanted bytes before footer) where
+module _ (wanted : Fields) (bytes before : List ℕ) (footer : Footer) (clear : IsUnopposed wanted bytes before footer) where
   has : HasFooter bytes footer
   has = (before, clear.part, clear.framed, clear.spelled)
 
@@ -91,7 +91,7 @@ module _ (wanted : Fields) (bytes before : List ℕ) (footer : Footer) (clear : 
         count ∙ ap (λ (f : Footer). f.rows) same,
       )
 
-  pub file_refused : (fault : PqFault) → Refuses fault (GroupsMean before (projection wanted footer.fields) footer.groups) → Reads wanted bytes (Err fault)
+  pub file_refused : (fault : PqFault) → RefusesMeaning fault (GroupsMean before (projection wanted footer.fields) footer.groups) → Reads wanted bytes (Err fault)
   file_refused Broken h = broken (λ rows m. h rows (groups_mean rows m).0)
   file_refused OutOfMemory h = tt
   file_refused NotParquet h = absurd h
@@ -140,9 +140,9 @@ pub mean_as : {b c : List ℕ} {ps qs : Plans} {gs hs : List RowGroup} → b ≡
 mean_as {b} {c} {ps} {qs} {gs} {hs} e f g rows h =
     subst (λ x. GroupsMean c qs x rows) g (subst (λ x. GroupsMean c x gs rows) f (subst (λ x. GroupsMean x ps gs rows) e h))
 
-pub refused_as : {b c : List ℕ} {ps qs : Plans} {gs hs : List RowGroup} (fault : PqFault) → b ≡ c → ps ≡ qs → gs ≡ hs → Refuses fault (GroupsMean b ps gs) → Refuses fault (GroupsMean c qs hs)
+pub refused_as : {b c : List ℕ} {ps qs : Plans} {gs hs : List RowGroup} (fault : PqFault) → b ≡ c → ps ≡ qs → gs ≡ hs → RefusesMeaning fault (GroupsMean b ps gs) → RefusesMeaning fault (GroupsMean c qs hs)
 refused_as {b} {c} {ps} {qs} {gs} {hs} fault e f g h =
-    subst (λ x. Refuses fault (GroupsMean c qs x)) g (subst (λ x. Refuses fault (GroupsMean c x gs)) f (subst (λ x. Refuses fault (GroupsMean x ps gs)) e h))
+    subst (λ x. RefusesMeaning fault (GroupsMean c qs x)) g (subst (λ x. RefusesMeaning fault (GroupsMean c x gs)) f (subst (λ x. RefusesMeaning fault (GroupsMean x ps gs)) e h))
 
 pub all_viewed : (groups : List code.RowGroup) → All HasDistinctPaths (map group_view groups) → All (λ group. HasDistinctPaths (group_view group)) groups
 all_viewed [] h = All-nil (λ group. HasDistinctPaths (group_view group))

@@ -17,7 +17,7 @@ use Rattle.dk_pqmodel.specs.declared.page.PageKind.{PageKind}
 use Rattle.dk_pqmodel.specs.declared.page.PageKind.TheVariants.{DataV1, DataV2, Dictionary}
 use Rattle.dk_pages.proofs.PageSpellings.{page_only, page_found}
 use Rattle.dk_pqread.specs.ChunkMeaning.{EntriesHold, DataFrom, is_dictionary}
-use Rattle.dk_pqread.specs.Meanings.{Refuses, Finds}
+use Rattle.dk_pqread.specs.Meanings.{RefusesMeaning, Finds}
 use Rattle.dk_pqread.specs.PageMeaning.{PageHolds, AddsTriples, is_data}
 use Rattle.dk_pqmodel.specs.Scans.{first_place}
 use Rattle.dk_pqread.proofs.DataPages.{data_found, data_given}
@@ -145,7 +145,7 @@ module _ (before : List ℕ) (column : ColumnAt) (dictionary : Option (List Valu
             let values : f.page.values ≡ page.values = ap (λ (p : Page). p.values) (same_page r.0 f) in
             omega (arith, many, values, f.holds.count, f.room)
 
-        pub page_refused : (fault : PqFault) → Refuses fault (AddsTriples done (PageHolds column dictionary page)) → Refuses fault (From start count)
+        pub page_refused : (fault : PqFault) → RefusesMeaning fault (AddsTriples done (PageHolds column dictionary page)) → RefusesMeaning fault (From start count)
         page_refused fault h =
             refuses_by fault (AddsTriples done (PageHolds column dictionary page)) (From start count)
             (λ all d. (
@@ -377,7 +377,7 @@ module _ (before : List ℕ) (column : ColumnAt) (chunk : Chunk) where
               let same = same_first other at in
               (entries, subst (λ (p : Page). EntriesHold column.kind p entries) same holds, subst (λ (p : Page). DataFrom before column (Some entries) p.next chunk.values triples) same d))
 
-      pub dictionary_refused : (fault : PqFault) → is_dictionary page.kind ≡ true → Refuses fault (EntriesHold column.kind page) → Refuses fault (HasTriples before column chunk)
+      pub dictionary_refused : (fault : PqFault) → is_dictionary page.kind ≡ true → RefusesMeaning fault (EntriesHold column.kind page) → RefusesMeaning fault (HasTriples before column chunk)
       dictionary_refused fault is h =
           refuses_by fault (EntriesHold column.kind page) (HasTriples before column chunk) (λ triples t. (let b = behind_dictionary is triples t in (b.0, b.1))) h
 

@@ -9,7 +9,7 @@ use Rattle.dk_pqmodel.specs.FileMeans.{HasPages, HasTriples, HasColumn, HasColum
 use Rattle.dk_pqmodel.specs.FilePages.{ColumnAt, AreData, IsData}
 use Rattle.dk_pqmodel.specs.Footer.{Chunk, RowGroup}
 use Rattle.dk_pqmodel.specs.Projection.{Plans, projected_fields}
-use Rattle.dk_pqread.specs.Counts.{may_have, chunk_agrees, group_agrees, groups_agree, have_rows, counts_agree}
+use Rattle.dk_pqread.specs.Counts.{may_have_triples, chunk_agrees, group_agrees, groups_agree, have_rows, counts_agree}
 use Rattle.dk_pqread.proofs.DistinctPaths.{HasDistinctPaths}
 use Rattle.dk_pqread.proofs.Groups.{chunk_only}
 use Rattle.dk_pqread.specs.Starts.{zero_at, starts, Each}
@@ -63,12 +63,12 @@ module _ (column : ColumnAt) (flat : column.rep ≡ 0) where
       by_pages (inl none) = none_starts es (has.count ∙ none)
       by_pages (inr h) = subst (λ x. starts x ≡ length x) (sym h.joined) (pages_start h.dictionary h.pages h.read)
 
-chunk_holds : (before : List ℕ) (column : ColumnAt) (chunk : Chunk) (es : Column) (rows : ℕ) → HasTriples before column chunk es → starts es ≡ rows → may_have column.rep rows chunk.values ≡ true
+chunk_holds : (before : List ℕ) (column : ColumnAt) (chunk : Chunk) (es : Column) (rows : ℕ) → HasTriples before column chunk es → starts es ≡ rows → may_have_triples column.rep rows chunk.values ≡ true
 chunk_holds before column chunk es rows has count = by_rep column.rep refl
   where
-    by_rep : (n : ℕ) → column.rep ≡ n → may_have column.rep rows chunk.values ≡ true
-    by_rep zero e = subst (λ n. may_have n rows chunk.values ≡ true) (sym e) (eq-eqb chunk.values rows (sym has.count ∙ sym (chunk_starts column e before chunk es has) ∙ count))
-    by_rep (suc n) e = subst (λ k. may_have k rows chunk.values ≡ true) (sym e) (rw (ne_eqb (suc n) 0 (λ same. omega (arith, same))) (le-leb rows chunk.values (omega (arith, has.count, starts_few es, count))))
+    by_rep : (n : ℕ) → column.rep ≡ n → may_have_triples column.rep rows chunk.values ≡ true
+    by_rep zero e = subst (λ n. may_have_triples n rows chunk.values ≡ true) (sym e) (eq-eqb chunk.values rows (sym has.count ∙ sym (chunk_starts column e before chunk es has) ∙ count))
+    by_rep (suc n) e = subst (λ k. may_have_triples k rows chunk.values ≡ true) (sym e) (rw (ne_eqb (suc n) 0 (λ same. omega (arith, same))) (le-leb rows chunk.values (omega (arith, has.count, starts_few es, count))))
 
 -- ---- groups
 

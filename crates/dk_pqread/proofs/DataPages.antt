@@ -5,7 +5,7 @@ use Rattle.std.proofs.lemmas.List.{length-append}
 use Rattle.std.proofs.lemmas.Bool.{eqb-true}
 use Rattle.std.proofs.lemmas.Bool.Decides.{Decides-int_eq}
 use Rattle.dk_grammar.specs.Plain.{little}
-use Rattle.dk_grammar.specs.Structs.{Listed, last_under}
+use Rattle.dk_grammar.specs.Structs.{FieldValues, last_under}
 use Rattle.dk_grammar.specs.PageHeaders.{Part, numbers_in, inner_under, SpellsHeader}
 use Rattle.dk_grammar.proofs.Bodies.{AreBytes}
 use Rattle.dk_pqmodel.specs.Datum.{Value, Triple, Column}
@@ -90,7 +90,7 @@ levels_given greatest part runs rest (inr h) =
 abbrev parts_with : List ℕ → List ℕ → List ℕ → Parts
 parts_with rep def values = record { rep = rep; def = def; values = values }
 
-module _ (column : ColumnAt) (dictionary : Option (List Value)) (parts : Listed Part) (header body : List ℕ) (page : Page) (triples : Column) (spelled : SpellsHeader header parts) (held : PageHolds column dictionary page triples) where
+module _ (column : ColumnAt) (dictionary : Option (List Value)) (parts : FieldValues Part) (header body : List ℕ) (page : Page) (triples : Column) (spelled : SpellsHeader header parts) (held : PageHolds column dictionary page triples) where
   v1_found : AreBytes body → SaysV1 parts body page → IsDataV1 column dictionary (header ++ body) triples
   v1_found small says =
       let room = natural_is (last_under (pos 3) (numbers_in parts)) (length body) says.size in

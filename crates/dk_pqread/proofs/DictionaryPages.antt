@@ -4,7 +4,7 @@ use Rattle.std.specs.Ordering.{int_eq}
 use Rattle.std.proofs.lemmas.List.{append-nil}
 use Rattle.std.proofs.lemmas.Bool.Decides.{Decides-int_eq}
 use Rattle.dk_grammar.specs.Plain.{plain_values}
-use Rattle.dk_grammar.specs.Structs.{Listed, last_under}
+use Rattle.dk_grammar.specs.Structs.{FieldValues, last_under}
 use Rattle.dk_grammar.specs.PageHeaders.{Part, numbers_in, inner_under, SpellsHeader}
 use Rattle.dk_grammar.proofs.Bodies.{AreBytes}
 use Rattle.dk_pqmodel.specs.Shape.{Leaf}
@@ -20,7 +20,7 @@ use Rattle.dk_pqmodel.specs.declared.page.PageKind.TheVariants.{DataV1, DataV2, 
 use Rattle.dk_pages.proofs.PageKinds.{natural_is, is_natural, int32_some, page_of_kind, SaysDictionary, SaysKind, page_kind, dictionary_stands}
 use Rattle.dk_pqread.specs.ChunkMeaning.{AreWhole, EntriesHold, is_dictionary, is_entry_code}
 use Rattle.dk_levels.specs.Answers.{FailsMeant}
-use Rattle.dk_pqread.specs.Meanings.{Refuses, Finds}
+use Rattle.dk_pqread.specs.Meanings.{RefusesMeaning, Finds}
 use Rattle.dk_pqread.specs.Values.{plains_at}
 use Rattle.dk_pqread.proofs.Finding.{fails_refuses, finds_as}
 use Rattle.dk_pqread.proofs.PartLaws.{none_is_not_some, some_is}
@@ -40,7 +40,7 @@ code_fits : (code : ℤ) → (code ≡ pos 0) ⊎ (code ≡ pos 2) → option_an
 code_fits code (inl e) = rw e refl
 code_fits code (inr e) = rw e refl
 
-module _ (kind : Leaf) (parts : Listed Part) (header body : List ℕ) (page : Page) (entries : List Value) (spelled : SpellsHeader header parts) (held : EntriesHold kind page entries) where
+module _ (kind : Leaf) (parts : FieldValues Part) (header body : List ℕ) (page : Page) (entries : List Value) (spelled : SpellsHeader header parts) (held : EntriesHold kind page entries) where
   entries_found : SaysDictionary parts body page → IsDictionary kind (header ++ body) entries
   entries_found says =
       let room = natural_is (last_under (pos 3) (numbers_in parts)) (length body) says.size in
@@ -120,7 +120,7 @@ entries_once kind page a b first second =
     ap (λ (x : Taken). x.0) e
 
 module _ (kind : Leaf) (total : ℕ) (bytes : List ℕ) where
-  pub whole_refused : (fault : PqFault) → FailsMeant fault (plains_at kind total bytes) → Refuses fault (AreWhole kind total bytes)
+  pub whole_refused : (fault : PqFault) → FailsMeant fault (plains_at kind total bytes) → RefusesMeaning fault (AreWhole kind total bytes)
   whole_refused fault h =
       fails_refuses fault (plains_at kind total bytes) (AreWhole kind total bytes) (λ none values held. none_is_not_some (values, []) (sym none ∙ whole_read kind total bytes values held)) h
 

@@ -3,10 +3,10 @@ use Rattle.std.proofs.Common.{◌≡◌, Option, Some, None, Result, Ok, Err}
 use Rattle.dk_pqmodel.specs.declared.fault.PqFault.{PqFault}
 use Rattle.dk_pqmodel.specs.declared.fault.PqFault.TheVariants.{NotParquet, Shape, Compressed, Encoding, Broken, OutOfMemory}
 use Rattle.dk_levels.specs.Answers.{FailsMeant, GivesMeant}
-use Rattle.dk_pqread.specs.Meanings.{Refuses, Finds}
+use Rattle.dk_pqread.specs.Meanings.{RefusesMeaning, Finds}
 
 -- where what is meant has a part that is refused, it is refused
-pub refuses_by : {A B : Type 0} (fault : PqFault) (M : A → Type 0) (N : B → Type 0) → ((y : B) → N y → (x : A) × M x) → Refuses fault M → Refuses fault N
+pub refuses_by : {A B : Type 0} (fault : PqFault) (M : A → Type 0) (N : B → Type 0) → ((y : B) → N y → (x : A) × M x) → RefusesMeaning fault M → RefusesMeaning fault N
 refuses_by Broken M N part h = λ y n. h (part y n).0 (part y n).1
 refuses_by OutOfMemory M N part h = tt
 refuses_by NotParquet M N part h = absurd h
@@ -15,7 +15,7 @@ refuses_by (Compressed c n) M N part h = absurd h
 refuses_by (Encoding c n) M N part h = absurd h
 
 -- where nothing is given, nothing is meant
-pub fails_refuses : {Y Z : Type 0} (fault : PqFault) (meant : Option Z) (M : Y → Type 0) → (meant ≡ None → (y : Y) → M y → ⊥) → FailsMeant fault meant → Refuses fault M
+pub fails_refuses : {Y Z : Type 0} (fault : PqFault) (meant : Option Z) (M : Y → Type 0) → (meant ≡ None → (y : Y) → M y → ⊥) → FailsMeant fault meant → RefusesMeaning fault M
 fails_refuses Broken meant M never h = never h
 fails_refuses OutOfMemory meant M never h = tt
 fails_refuses NotParquet meant M never h = absurd h

@@ -8,7 +8,7 @@ use Rattle.dk_pqmodel.specs.Projection.{Plans, both_read, turned_all, in_group, 
 use Rattle.dk_pqmodel.specs.declared.fault.PqFault.{PqFault}
 use Rattle.dk_pqmeta.specs.View.{group_view}
 use Rattle.dk_pqmeta.specs.declared.footer.RowGroup as code
-use Rattle.dk_pqread.specs.Meanings.{Refuses}
+use Rattle.dk_pqread.specs.Meanings.{RefusesMeaning}
 use Rattle.dk_pqread.specs.RowsMeaning.{GroupMeans, GroupsMean, AddsRows}
 use Rattle.dk_pqread.proofs.Finding.{refuses_by}
 use Rattle.dk_pqread.proofs.Going.{appended_nothing}
@@ -114,7 +114,7 @@ module _ (before : List ℕ) (plans : Plans) where
       group_in groups i group shares apart.second (omega arith) is held.1 apart.goes
 
   pub group_refused : (groups : List code.RowGroup) (i : ℕ) (group : code.RowGroup) (done : Cells) (fault : PqFault) → i < length groups → group ≡ get_or groups i group
-      → Refuses fault (AddsRows done (GroupMeans before plans (group_view group))) → Refuses fault (GroupsMean before plans (map group_view groups))
+      → RefusesMeaning fault (AddsRows done (GroupMeans before plans (group_view group))) → RefusesMeaning fault (GroupsMean before plans (map group_view groups))
   group_refused groups i group done fault h is bad =
       refuses_by fault (AddsRows done (GroupMeans before plans (group_view group))) (GroupsMean before plans (map group_view groups))
       (λ rows all. (

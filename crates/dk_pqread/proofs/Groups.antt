@@ -12,7 +12,7 @@ use Rattle.dk_pqmodel.specs.FileMeans.{HasTriples, HasColumn, HasColumns}
 use Rattle.dk_pqmodel.specs.FilePages.{ColumnAt}
 use Rattle.dk_pqmodel.specs.declared.fault.PqFault.{PqFault}
 use Rattle.dk_pqread.specs.ColumnView.{column_at}
-use Rattle.dk_pqread.specs.Meanings.{Refuses}
+use Rattle.dk_pqread.specs.Meanings.{RefusesMeaning}
 use Rattle.dk_pqmodel.specs.Scans.{chunk_at}
 use Rattle.dk_pqread.specs.declared.column.Column as code
 use Rattle.dk_pqread.proofs.ChunkPages.{chunk_once}
@@ -122,7 +122,7 @@ module _ (before : List ℕ) (group : RowGroup) where
     columns_once (c ∷ cs) (x ∷ a) (y ∷ b) first second = ap (λ z. z ∷ a) (column_once c x y first.0 second.0) ∙ ap (λ zs. y ∷ zs) (columns_once cs a b first.1 second.1)
 
     -- a chunk that is refused refuses its column
-    pub chunk_refused : (c : ColumnAt) (chunk : Chunk) (fault : PqFault) → chunk_at c.path group.columns ≡ Some chunk → Refuses fault (HasTriples before c chunk) → Refuses fault (HasColumn before group c)
+    pub chunk_refused : (c : ColumnAt) (chunk : Chunk) (fault : PqFault) → chunk_at c.path group.columns ≡ Some chunk → RefusesMeaning fault (HasTriples before c chunk) → RefusesMeaning fault (HasColumn before group c)
     chunk_refused c chunk fault found h =
         refuses_by fault (HasTriples before c chunk) (HasColumn before group c)
         (λ t m. (
@@ -133,5 +133,5 @@ module _ (before : List ℕ) (group : RowGroup) where
     pub no_chunk : (c : ColumnAt) → chunk_at c.path group.columns ≡ None → (t : Column) → HasColumn before group c t → ⊥
     no_chunk c none t m = none_is_not_some m.0 (sym none ∙ chunk_only group.columns c.path m.0 distinct m.1)
 
-  pub columns_refused : (cs : List code.Column) (i : ℕ) (c : code.Column) (fault : PqFault) → i < length cs → c ≡ get_or cs i c → Refuses fault (HasColumn before group (column_at c)) → Refuses fault (HasColumns before group (map column_at cs))
+  pub columns_refused : (cs : List code.Column) (i : ℕ) (c : code.Column) (fault : PqFault) → i < length cs → c ≡ get_or cs i c → RefusesMeaning fault (HasColumn before group (column_at c)) → RefusesMeaning fault (HasColumns before group (map column_at cs))
   columns_refused cs i c fault h is bad = refuses_by fault (HasColumn before group (column_at c)) (HasColumns before group (map column_at cs)) (λ ts all. column_in cs i c ts h is all) bad

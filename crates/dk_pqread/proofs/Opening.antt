@@ -9,7 +9,7 @@ use Rattle.dk_pqmodel.specs.declared.fault.PqFault.{PqFault}
 use Rattle.dk_pqmodel.specs.declared.fault.PqFault.TheVariants.{NotParquet, Shape, Compressed, Encoding, Broken, OutOfMemory}
 use Rattle.dk_pqmeta.specs.Footers.{AnswersFooter}
 use Rattle.dk_pqmodel.specs.Scans.{first_compressed, first_unread}
-use Rattle.dk_pqmodel.specs.Faults.{columns_read, IsOpen, IsRefused}
+use Rattle.dk_pqmodel.specs.Faults.{columns_read, IsUnopposed, IsRefused}
 use Rattle.dk_pqread.specs.Examining.{LaysFile, Scans}
 
 pub footer_refused : (wanted : Fields) (bytes : List ℕ) (fault : PqFault) → AnswersFooter bytes (Err fault) → IsRefused wanted bytes fault
@@ -48,7 +48,7 @@ module _ (wanted : Fields) (bytes before part : List ℕ) (footer : Footer) (fra
     named = h.1.2;
   }
 
-  pub opened : (first_compressed (columns_read wanted footer) footer.groups ≡ None) × (first_unread before (columns_read wanted footer) footer.groups ≡ None) → IsOpen wanted bytes before footer
+  pub opened : (first_compressed (columns_read wanted footer) footer.groups ≡ None) × (first_unread before (columns_read wanted footer) footer.groups ≡ None) → IsUnopposed wanted bytes before footer
   opened h = record { part = part; framed = framed; spelled = spelled; fitting = fitting; plain = h.0; read = h.1 }
 
 -- what is scanned, under other names

@@ -9,7 +9,7 @@ use Rattle.dk_pqmodel.specs.declared.fault.PqFault.{PqFault}
 use Rattle.dk_pqmodel.specs.Pages.{Page}
 use Rattle.dk_pages.specs.Split.{Parts}
 use Rattle.dk_levels.specs.Answers.{GivesMeant}
-use Rattle.dk_pqread.specs.Meanings.{Refuses, Finds, full_count, zipped, triples_then}
+use Rattle.dk_pqread.specs.Meanings.{RefusesMeaning, Finds, full_count, zipped, triples_then}
 use Rattle.dk_pqread.specs.PageMeaning.{PageHolds, PartsHold, AddsTriples}
 use Rattle.dk_pqread.proofs.Finding.{refuses_by, finds_given}
 use Rattle.dk_pqread.proofs.LevelLaws.{AreLevelsOf, levels_once}
@@ -38,7 +38,7 @@ module _ (column : ColumnAt) (dictionary : Option (List Value)) (code : ℤ) (co
     values_of ts h =
         (values_count column.def ts (recursion_from_All (IsFull column.def) ts h.held.full.0) ∙ ap (full_count column.def) (same_defs ts h), h.held.held)
 
-    pub values_refused : (before : Column) (fault : PqFault) → Refuses fault (AreValuesOf column dictionary code (full_count column.def ds) parts.values) → Refuses fault (AddsTriples before Held)
+    pub values_refused : (before : Column) (fault : PqFault) → RefusesMeaning fault (AreValuesOf column dictionary code (full_count column.def ds) parts.values) → RefusesMeaning fault (AddsTriples before Held)
     values_refused before fault h =
         refuses_by fault (AreValuesOf column dictionary code (full_count column.def ds) parts.values) (AddsTriples before Held) (λ y n. (filter_map (λ (e : Triple). e.value) n.0, values_of n.0 n.2)) h
 

@@ -3,7 +3,7 @@ use Rattle.std.proofs.Common.{◌≡◌, ℕ, suc, ◌+◌, ◌-◌, ◌<◌, �
 use Rattle.std.proofs.lemmas.Bool.{eqb-true}
 use Rattle.dk_pqmodel.specs.FilePages.{ColumnAt}
 use Rattle.dk_pqmodel.specs.Pages.{Page, page_at}
-use Rattle.dk_pqmodel.specs.Scans.{unread_code, unread_from, values_in}
+use Rattle.dk_pqmodel.specs.Scans.{unread_code, unread_from, values_on_page}
 
 unlike : (n : ℕ) → (n ≡ 0 → ⊥) → (n == 0) ≡ false
 unlike n h = by_test (n == 0) refl
@@ -28,5 +28,5 @@ module _ (before : List ℕ) (column : ColumnAt) (place wanted most i : ℕ) (wh
   refused page code some there bad = rw (unlike wanted some, there, bad) at opened
 
   pub goes_on : (page : Page) → (wanted ≡ 0 → ⊥) → page_at before place ≡ Some page → unread_code column page ≡ None
-      → unread_from (most - (i + 1)) before column page.next (wanted - values_in page.kind page.values) ≡ whole
+      → unread_from (most - (i + 1)) before column page.next (wanted - values_on_page page.kind page.values) ≡ whole
   goes_on page some there good = rw (unlike wanted some, there, good) at opened

@@ -2,7 +2,7 @@
 use Rattle.std.proofs.Common.{◌≡◌, ℕ, zero, suc, ◌+◌, add-one, Bool, true, false, Option, Some, None, [], ◌∷◌, ◌++◌, List, length, Result, Ok, Err, refl, sym, ap, subst, ◌∙◌, arith}
 use Rattle.std.specs.Prelude.{IfOk, IfErr, IsErrOf}
 use Rattle.dk_levels.specs.Answers.{IsBrokenOrMemory}
-use Rattle.dk_levels.specs.Solid.{IsReadable}
+use Rattle.dk_levels.specs.Solid.{AreReadable}
 use Rattle.dk_levels.proofs.Again.{one_reading}
 use Rattle.dk_pqmodel.specs.Shape.{Fields, no_fields, root}
 use Rattle.dk_pqmodel.specs.Datum as datum
@@ -18,7 +18,7 @@ use Rattle.dk_pqmodel.specs.declared.fault.PqFault.{PqFault}
 use Rattle.dk_pqmodel.specs.declared.fault.PqFault.TheVariants.{NotParquet, Shape, Compressed, Encoding, Broken, OutOfMemory}
 use Rattle.dk_pqread.specs.Cells.{cells_then}
 use Rattle.dk_levels.specs.Answers.{GivesMeant}
-use Rattle.dk_pqread.specs.Meanings.{Refuses, Finds}
+use Rattle.dk_pqread.specs.Meanings.{RefusesMeaning, Finds}
 use Rattle.dk_pqread.specs.RowsMeaning.{AddsRows, GroupMeans, empty_rows}
 use Rattle.dk_pqread.proofs.Finding.{refuses_by, finds_given}
 use Rattle.dk_pqread.proofs.Groups.{columns_once}
@@ -42,21 +42,21 @@ rows_counted [] = refl
 rows_counted (row ∷ rows) = omega (arith, rows_counted rows)
 
 module _ (before : List ℕ) (plans : Plans) (group : RowGroup) where
-  pub columns_refused : (fault : PqFault) → Refuses fault (HasColumns before group (columns_of plans 0 0)) → Refuses fault (HasRows before plans group)
+  pub columns_refused : (fault : PqFault) → RefusesMeaning fault (HasColumns before group (columns_of plans 0 0)) → RefusesMeaning fault (HasRows before plans group)
   columns_refused fault h = refuses_by fault (HasColumns before group (columns_of plans 0 0)) (HasRows before plans group) (λ rows g. (g.columns, g.held)) h
 
   module _ (distinct : is_new_each [] group.columns ≡ true) (columns : List Column) (held : HasColumns before group (columns_of plans 0 0) columns) where
     of_columns : (rows : Cells) → HasRows before plans group rows → AreTriplesOf (projected_fields plans) rows columns
     of_columns rows g = subst (λ cs. AreTriplesOf (projected_fields plans) rows cs) (columns_once before group distinct (columns_of plans 0 0) g.columns columns g.held held) g.triples
 
-    pub join_refused : (fault : PqFault) → Refuses fault (λ rows. AreTriplesOf (projected_fields plans) rows columns) → Refuses fault (HasRows before plans group)
+    pub join_refused : (fault : PqFault) → RefusesMeaning fault (λ rows. AreTriplesOf (projected_fields plans) rows columns) → RefusesMeaning fault (HasRows before plans group)
     join_refused fault h = refuses_by fault (λ rows. AreTriplesOf (projected_fields plans) rows columns) (HasRows before plans group) (λ rows g. (rows, of_columns rows g)) h
 
     module _ (rows : Cells) (triples : AreTriplesOf (projected_fields plans) rows columns) where
       pub share_found : rows_in rows ≡ group.rows → HasRows before plans group rows
       share_found count = record { columns = columns; held = held; triples = triples; count = count }
 
-      pub other_count : IsReadable (projected_fields plans) → (rows_in rows ≡ group.rows → ⊥) → (others : Cells) → HasRows before plans group others → ⊥
+      pub other_count : AreReadable (projected_fields plans) → (rows_in rows ≡ group.rows → ⊥) → (others : Cells) → HasRows before plans group others → ⊥
       other_count readable differs others g =
           let same : others ≡ rows = one_reading (projected_fields plans) others rows columns readable (of_columns others g) triples in
           differs (ap rows_in (sym same) ∙ g.count)
@@ -108,7 +108,7 @@ empty_more rows now row n done empty pushed =
 
 -- ---- a group has at most one list of rows
 
-module _ (before : List ℕ) (plans : Plans) (group : RowGroup) (distinct : is_new_each [] group.columns ≡ true) (readable : all_missing plans ≡ false → IsReadable (projected_fields plans)) where
+module _ (before : List ℕ) (plans : Plans) (group : RowGroup) (distinct : is_new_each [] group.columns ≡ true) (readable : all_missing plans ≡ false → AreReadable (projected_fields plans)) where
   share_once : (a b : Cells) → HasRows before plans group a → HasRows before plans group b → a ≡ b
   share_once a b f g = by_plans (all_missing plans) refl
     where
@@ -119,7 +119,7 @@ module _ (before : List ℕ) (plans : Plans) (group : RowGroup) (distinct : is_n
           empty_rows_once a b (subst (λ fs. AreRowsOf fs a) none f.triples.0) (subst (λ fs. AreRowsOf fs b) none g.triples.0) (f.count ∙ sym g.count)
 
   -- where a group has no rows, none are added
-  pub own_refused : (done : Cells) (fault : PqFault) → Refuses fault (HasRows before plans group) → Refuses fault (AddsRows done (GroupMeans before plans group))
+  pub own_refused : (done : Cells) (fault : PqFault) → RefusesMeaning fault (HasRows before plans group) → RefusesMeaning fault (AddsRows done (GroupMeans before plans group))
   own_refused done fault h = refuses_by fault (HasRows before plans group) (AddsRows done (GroupMeans before plans group)) (λ rows (more, after, one). (one.own, one.share)) h
 
   -- those that are made of the group's own are added

@@ -22,7 +22,7 @@ use Rattle.dk_pqmeta.specs.declared.footer.RowGroup as group_code
 use Rattle.dk_pqread.specs.ColumnView.{column_at}
 use Rattle.dk_pqread.specs.RowsMeaning.{GroupsMean}
 use Rattle.dk_pqread.specs.declared.column.Column as code
-use Rattle.dk_pqread.specs.Meanings.{Refuses, Tells}
+use Rattle.dk_pqread.specs.Meanings.{RefusesMeaning, Tells}
 use Rattle.dk_pqread.specs.PageMeaning.{PageHolds}
 use Rattle.dk_pqread.specs.Starts.{zero_at, starts, Each, OnPage, OnPages, BeginsRows, BeginRows, AllBeginRows}
 use Rattle.dk_pqread.proofs.ChunkPages.{ReadAs, data_first, chunk_means, same_first, behind_dictionary}
@@ -115,7 +115,7 @@ module _ (before : List ℕ) (column : ColumnAt) where
         pub more_than : wanted < page.values → (all : Column) → OnPages before column start count all → ⊥
         more_than many all d = (let f = first_new all d in omega (arith, many, f.2.1.count, f.5))
 
-        pub next_refused : (fault : PqFault) → Refuses fault (OnPage column page) → Refuses fault (OnPages before column start count)
+        pub next_refused : (fault : PqFault) → RefusesMeaning fault (OnPage column page) → RefusesMeaning fault (OnPages before column start count)
         next_refused fault h = refuses_by fault (OnPage column page) (OnPages before column start count) (λ all d. (let f = first_new all d in (f.0, f.2))) h
 
         pub starts_next : (number values left : ℕ) → values ≡ page.values → values ≤ wanted → left ≡ wanted - values → number ≤ page.values → Tells starts (Ok number) (OnPage column page)
@@ -165,7 +165,7 @@ module _ (before : List ℕ) (group : RowGroup) (distinct : HasDistinctPaths gro
         let same : b.0.0 ≡ chunk = some_is b.0.0 chunk (sym (chunk_only group.columns column.path b.0.0 distinct b.0.1) ∙ found) in
         subst (λ (k : Chunk). HasTriples before column k triples) same b.0.2
 
-    pub begins_refused : (fault : PqFault) → Refuses fault (HasTriples before column chunk) → Refuses fault (BeginsRows before group column)
+    pub begins_refused : (fault : PqFault) → RefusesMeaning fault (HasTriples before column chunk) → RefusesMeaning fault (BeginsRows before group column)
     begins_refused fault h = refuses_by fault (HasTriples before column chunk) (BeginsRows before group column) (λ triples b. (triples, chunk_is triples b)) h
 
     pub other_number : (number : ℕ) → Tells starts (Ok number) (HasTriples before column chunk) → (number ≡ group.rows → ⊥) → (triples : Column) → BeginsRows before group column triples → ⊥
@@ -180,8 +180,8 @@ module _ (before : List ℕ) where
   begins_in group (x ∷ cs) zero c (t ∷ ts) h is all each = (t, subst (λ (y : code.Column). BeginsRows before group (column_at y) t) (sym is) (all.0, each.0))
   begins_in group (x ∷ cs) (suc i) c (t ∷ ts) h is all each = begins_in group cs i c ts (omega arith) is all.1 each.1
 
-  pub column_refused : (group : RowGroup) (cs : List code.Column) (i : ℕ) (c : code.Column) (fault : PqFault) → i < length cs → c ≡ get_or cs i c → Refuses fault (BeginsRows before group (column_at c))
-      → Refuses fault (BeginRows before group (map column_at cs))
+  pub column_refused : (group : RowGroup) (cs : List code.Column) (i : ℕ) (c : code.Column) (fault : PqFault) → i < length cs → c ≡ get_or cs i c → RefusesMeaning fault (BeginsRows before group (column_at c))
+      → RefusesMeaning fault (BeginRows before group (map column_at cs))
   column_refused group cs i c fault h is bad =
       refuses_by fault (BeginsRows before group (column_at c)) (BeginRows before group (map column_at cs)) (λ ts all. begins_in group cs i c ts h is all.0 all.1) bad
 
@@ -192,8 +192,8 @@ module _ (before : List ℕ) where
   group_in cs (x ∷ gs) zero g (t ∷ ts) h is all = (t, subst (λ (y : group_code.RowGroup). BeginRows before (group_view y) cs t) (sym is) all.0)
   group_in cs (x ∷ gs) (suc i) g (t ∷ ts) h is all = group_in cs gs i g ts (omega arith) is all.1
 
-  pub begin_refused : (cs : List ColumnAt) (gs : List group_code.RowGroup) (i : ℕ) (g : group_code.RowGroup) (fault : PqFault) → i < length gs → g ≡ get_or gs i g → Refuses fault (BeginRows before (group_view g) cs)
-      → Refuses fault (AllBeginRows before cs (map group_view gs))
+  pub begin_refused : (cs : List ColumnAt) (gs : List group_code.RowGroup) (i : ℕ) (g : group_code.RowGroup) (fault : PqFault) → i < length gs → g ≡ get_or gs i g → RefusesMeaning fault (BeginRows before (group_view g) cs)
+      → RefusesMeaning fault (AllBeginRows before cs (map group_view gs))
   begin_refused cs gs i g fault h is bad = refuses_by fault (BeginRows before (group_view g) cs) (AllBeginRows before cs (map group_view gs)) (λ ts all. group_in cs gs i g ts h is all) bad
 
   -- groups that have rows have as many as they say
@@ -208,11 +208,11 @@ module _ (before : List ℕ) where
         let rest = columns_in groups shares h.1 in
         (has.columns ∷ rest.0, ((has.held, each), rest.1))
 
-    pub groups_begin : (fault : PqFault) (groups : List RowGroup) → Refuses fault (AllBeginRows before (columns_of plans 0 0) groups) → Refuses fault (GroupsMean before plans groups)
+    pub groups_begin : (fault : PqFault) (groups : List RowGroup) → RefusesMeaning fault (AllBeginRows before (columns_of plans 0 0) groups) → RefusesMeaning fault (GroupsMean before plans groups)
     groups_begin fault groups h =
         refuses_by fault (AllBeginRows before (columns_of plans 0 0) groups) (GroupsMean before plans groups) (λ rows all. columns_in groups all.shares all.held) h
 
 -- the same under other names
-pub begin_as : {b c : List ℕ} {cs ds : List ColumnAt} {gs hs : List RowGroup} (fault : PqFault) → b ≡ c → cs ≡ ds → gs ≡ hs → Refuses fault (AllBeginRows b cs gs) → Refuses fault (AllBeginRows c ds hs)
+pub begin_as : {b c : List ℕ} {cs ds : List ColumnAt} {gs hs : List RowGroup} (fault : PqFault) → b ≡ c → cs ≡ ds → gs ≡ hs → RefusesMeaning fault (AllBeginRows b cs gs) → RefusesMeaning fault (AllBeginRows c ds hs)
 begin_as {b} {c} {cs} {ds} {gs} {hs} fault e f g h =
-    subst (λ x. Refuses fault (AllBeginRows c ds x)) g (subst (λ x. Refuses fault (AllBeginRows c x gs)) f (subst (λ x. Refuses fault (AllBeginRows x cs gs)) e h))
+    subst (λ x. RefusesMeaning fault (AllBeginRows c ds x)) g (subst (λ x. RefusesMeaning fault (AllBeginRows c x gs)) f (subst (λ x. RefusesMeaning fault (AllBeginRows x cs gs)) e h))

@@ -29,7 +29,7 @@ use Rattle.dk_pqmodel.specs.Faults.{columns_read}
 use Rattle.dk_levels.specs.Answers.{FailsMeant, GivesMeant}
 use Rattle.dk_pqread.specs.PageMeaning.{PageHolds, is_data}
 use Rattle.dk_pqmodel.specs.Reads.{Reads}
-use Rattle.dk_pqmodel.specs.Scans.{chunk_at, codec_of, codec_in, first_compressed, is_value_code, is_read, is_level_code, unread_code, unread_from, unread_in, values_in, first_place, code_in, first_unread}
+use Rattle.dk_pqmodel.specs.Scans.{chunk_at, codec_of, codec_in, first_compressed, is_value_code, is_read_code, is_level_code, unread_code, unread_from, unread_in, values_on_page, first_place, code_in, first_unread}
 use Rattle.dk_pqread.proofs.Answering.{before_once}
 use Rattle.dk_pqread.proofs.DistinctPaths.{HasDistinctPaths, groups_distinct}
 use Rattle.dk_pqread.proofs.ChunkPages.{ReadAs, chunk_means, data_first}
@@ -66,7 +66,7 @@ values_read column dictionary code values bytes (inl h) = subst (λ z. is_value_
 values_read column dictionary code values bytes (inr (inl h)) = subst (λ z. is_value_code column.kind z ≡ true) (sym h.0) (runs_read column.kind values bytes h.1)
 values_read column dictionary code values bytes (inr (inr h)) = indices_read column.kind dictionary values bytes code h.1 h.0
 
-all_read : (column : ColumnAt) (page : Page) → is_read page.kind column.kind page.encoding ≡ true → is_level_code column.rep page.rep_code ≡ true → is_level_code column.def page.def_code ≡ true → unread_code column page ≡ None
+all_read : (column : ColumnAt) (page : Page) → is_read_code page.kind column.kind page.encoding ≡ true → is_level_code column.rep page.rep_code ≡ true → is_level_code column.def page.def_code ≡ true → unread_code column page ≡ None
 all_read column page a b c = rw (a, b, c) refl
 
 data_read : (column : ColumnAt) (dictionary : Option (List Value)) (page : Page) (triples : Column) → PageHolds column dictionary page triples → unread_code column page ≡ None
@@ -75,7 +75,7 @@ data_read column dictionary page triples h = all_read column page (by_kind page.
     coded : is_value_code column.kind page.encoding ≡ true
     coded = values_read column dictionary page.encoding _ h.parts.values h.held.held
 
-    by_kind : (kind : PageKind) → is_data kind ≡ true → is_read kind column.kind page.encoding ≡ true
+    by_kind : (kind : PageKind) → is_data kind ≡ true → is_read_code kind column.kind page.encoding ≡ true
     by_kind DataV1 is = coded
     by_kind DataV2 is = coded
     by_kind Dictionary is = cc
@@ -92,7 +92,7 @@ rle_level greatest code e = rw e (either (greatest == 0))
 entries_read : (before : List ℕ) (place : ℕ) (column : ColumnAt) (page : Page) (entries : List Value) → IsPageAt before place page → EntriesHold column.kind page entries → unread_code column page ≡ None
 entries_read before place column page entries at h =
     let levels = dictionary_codes before place page at h.is in
-    all_read column page (subst (λ k. is_read k column.kind page.encoding ≡ true) (sym h.is) (coded h.coded))
+    all_read column page (subst (λ k. is_read_code k column.kind page.encoding ≡ true) (sym h.is) (coded h.coded))
     (rle_level column.rep page.rep_code levels.0) (rle_level column.def page.def_code levels.1)
   where
     coded : (page.encoding ≡ pos 0) ⊎ (page.encoding ≡ pos 2) → (int_eq page.encoding (pos 0) || int_eq page.encoding (pos 2)) ≡ true
@@ -106,16 +106,16 @@ minus_zero n = omega arith
 
 module _ (before : List ℕ) (column : ColumnAt) where
   page_then : (most place wanted : ℕ) (page : Page) → (wanted == 0) ≡ false → page_at before place ≡ Some page → unread_code column page ≡ None
-      → unread_from most before column page.next (wanted - values_in page.kind page.values) ≡ None → unread_from (suc most) before column place wanted ≡ None
+      → unread_from most before column page.next (wanted - values_on_page page.kind page.values) ≡ None → unread_from (suc most) before column place wanted ≡ None
   page_then most place wanted page some at good rest = rw (some, at, good, rest) refl
 
   none_wanted : (most place wanted : ℕ) → (wanted == 0) ≡ true → unread_from (suc most) before column place wanted ≡ None
   none_wanted most place wanted e = rw e refl
 
-  data_values : (dictionary : Option (List Value)) (page : Page) (triples : Column) → PageHolds column dictionary page triples → values_in page.kind page.values ≡ length triples
+  data_values : (dictionary : Option (List Value)) (page : Page) (triples : Column) → PageHolds column dictionary page triples → values_on_page page.kind page.values ≡ length triples
   data_values dictionary page triples h = by_kind page.kind h.kind ∙ sym h.count
     where
-      by_kind : (kind : PageKind) → is_data kind ≡ true → values_in kind page.values ≡ page.values
+      by_kind : (kind : PageKind) → is_data kind ≡ true → values_on_page kind page.values ≡ page.values
       by_kind DataV1 is = refl
       by_kind DataV2 is = refl
       by_kind Dictionary is = cc
@@ -125,7 +125,7 @@ module _ (before : List ℕ) (column : ColumnAt) where
     page : Page
     at : page_at before place ≡ Some page
     good : unread_code column page ≡ None
-    rest : unread_from most before column page.next (wanted - values_in page.kind page.values) ≡ None
+    rest : unread_from most before column page.next (wanted - values_on_page page.kind page.values) ≡ None
 
   some_wanted : (n : ℕ) → (n == 0) ≡ false → 0 < n
   some_wanted zero e = cc
@@ -172,7 +172,7 @@ module _ (before : List ℕ) (column : ColumnAt) where
               at = page_only before (first_place chunk) page at;
               good = entries_read before (first_place chunk) column page entries at holds;
               rest =
-                  ap (λ k. unread_from most before column page.next (chunk.values - values_in k page.values)) holds.is
+                  ap (λ k. unread_from most before column page.next (chunk.values - values_on_page k page.values)) holds.is
                   ∙ ap (unread_from most before column page.next) (minus_zero chunk.values) ∙ data_unread (Some entries) most page.next chunk.values triples d;
             })
 

@@ -16,7 +16,7 @@ use Rattle.dk_pqmodel.specs.FilePages.{ColumnAt, ArePlainOf, InPlain, InRuns, Ar
 use Rattle.dk_pqmodel.specs.declared.fault.PqFault.{PqFault}
 use Rattle.dk_pages.specs.Split.{sized}
 use Rattle.dk_levels.specs.Answers.{FailsMeant, GivesMeant}
-use Rattle.dk_pqread.specs.Meanings.{HoldRuns, Refuses, Finds}
+use Rattle.dk_pqread.specs.Meanings.{HoldRuns, RefusesMeaning, Finds}
 use Rattle.dk_pqread.specs.Values.{bits_in, flag_of, flags_at, plains_at, flag_at}
 use Rattle.dk_pqread.proofs.Bits.{is_one, flags_stand, flags_found}
 use Rattle.dk_pqread.proofs.Finding.{refuses_by, fails_refuses, finds_given}
@@ -61,7 +61,7 @@ plains_stand kind count bytes over values other small h =
     let found = plains_found kind count bytes over values small h in
     (found.count, as_in_plain kind values bytes over found.ps other found.whole found.are)
 
-pub plains_refused : (kind : Leaf) (count : ℕ) (bytes : List ℕ) (fault : PqFault) → (kind ≡ flag → ⊥) → FailsMeant fault (plains_at kind count bytes) → Refuses fault (ArePlainly kind count bytes)
+pub plains_refused : (kind : Leaf) (count : ℕ) (bytes : List ℕ) (fault : PqFault) → (kind ≡ flag → ⊥) → FailsMeant fault (plains_at kind count bytes) → RefusesMeaning fault (ArePlainly kind count bytes)
 plains_refused kind count bytes fault other h =
     fails_refuses fault (plains_at kind count bytes) (ArePlainly kind count bytes)
     (λ none values m.
@@ -88,7 +88,7 @@ module _ (bytes : List ℕ) (count : ℕ) where
         let same : s.runs ≡ runs = first_part s.runs runs s.over over (sym s.sized ∙ cut) in
         (s.bits, subst (λ r. HoldRuns 1 count r s.bits) same s.held, s.flags)
 
-    pub flag_runs_refused : (fault : PqFault) → Refuses fault (HoldRuns 1 count runs) → Refuses fault (AreInRuns flag count bytes)
+    pub flag_runs_refused : (fault : PqFault) → RefusesMeaning fault (HoldRuns 1 count runs) → RefusesMeaning fault (AreInRuns flag count bytes)
     flag_runs_refused fault h = refuses_by fault (HoldRuns 1 count runs) (AreInRuns flag count bytes) (λ values m. (let b = bits_held values m in (b.0, b.1))) h
 
     module _ (bits : List ℕ) (held : HoldRuns 1 count runs bits) where
@@ -166,7 +166,7 @@ module _ (kind : Leaf) (other : kind ≡ flag → ⊥) (entries : List Value) (b
         let widths : a.width ≡ width = cc in
         omega (arith, wide, widths, a.narrow)
 
-    pub indices_refused : (fault : PqFault) → Refuses fault (HoldRuns width count rest) → Refuses fault (AreFromDictionary kind (Some entries) count bytes)
+    pub indices_refused : (fault : PqFault) → RefusesMeaning fault (HoldRuns width count rest) → RefusesMeaning fault (AreFromDictionary kind (Some entries) count bytes)
     indices_refused fault h =
         refuses_by fault (HoldRuns width count rest) (AreFromDictionary kind (Some entries) count bytes) (λ values m. (let i = indices_held values m in (i.0, i.1))) h
 

@@ -5,13 +5,13 @@ use Rattle.dk_pqmodel.specs.Footer.{Chunk, RowGroup}
 use Rattle.dk_pqmodel.specs.Scans.{chunk_at}
 
 -- A column of so many rows may have so many triples: one for each row where nothing repeats, and one at least where something does.
-abbrev pub may_have : ℕ → ℕ → ℕ → Bool
-may_have rep rows triples = if rep == 0 then triples == rows else nat_le rows triples
+abbrev pub may_have_triples : ℕ → ℕ → ℕ → Bool
+may_have_triples rep rows triples = if rep == 0 then triples == rows else nat_le rows triples
 
 -- there is a chunk, with as many triples as a column of so many rows may have
 abbrev pub chunk_agrees : ℕ → ℕ → Option Chunk → Bool
 chunk_agrees rep rows None = false
-chunk_agrees rep rows (Some chunk) = may_have rep rows chunk.values
+chunk_agrees rep rows (Some chunk) = may_have_triples rep rows chunk.values
 
 abbrev pub column_agrees : RowGroup → ColumnAt → Bool
 column_agrees group column = chunk_agrees column.rep group.rows (chunk_at column.path group.columns)

@@ -10,7 +10,7 @@ use Rattle.dk_pqmodel.specs.declared.fault.PqFault.{PqFault}
 use Rattle.dk_pqmodel.specs.declared.fault.PqFault.TheVariants.{Shape, Compressed, Encoding, OutOfMemory}
 use Rattle.dk_pqmeta.specs.View.{footer_view}
 use Rattle.dk_pqread.specs.ColumnView.{column_at}
-use Rattle.dk_pqmodel.specs.Faults.{columns_read, IsOpen, IsRefused}
+use Rattle.dk_pqmodel.specs.Faults.{columns_read, IsUnopposed, IsRefused}
 use Rattle.dk_pqread.specs.PlanView.{plans_of}
 use Rattle.dk_pqmodel.specs.Scans.{first_compressed, first_unread}
 use Rattle.dk_pqread.specs.declared.examine.Examined.{Examined}
@@ -35,6 +35,6 @@ Scans before columns groups (Err fault) = ⊥
 -- what is read of the file, where nothing stands against it; or what does
 abbrev pub Examines : Fields → List ℕ → Result Examined PqFault → Type 0
 Examines wanted bytes (Ok x) =
-    (before : List ℕ) × IsOpen wanted bytes before (footer_view x.footer) × (plans_of x.plans.items ≡ projection wanted (footer_view x.footer).fields)
+    (before : List ℕ) × IsUnopposed wanted bytes before (footer_view x.footer) × (plans_of x.plans.items ≡ projection wanted (footer_view x.footer).fields)
     × (map column_at x.columns.items ≡ columns_read wanted (footer_view x.footer))
 Examines wanted bytes (Err fault) = IsRefused wanted bytes fault

@@ -7,20 +7,20 @@ use Rattle.dk_pqmodel.specs.declared.fault.PqFault.{PqFault}
 use Rattle.dk_pqmodel.specs.declared.fault.PqFault.TheVariants.{Broken, OutOfMemory}
 
 -- a refusal: nothing is meant, or memory was wanting
-abbrev pub Refuses : {Y : Type 0} → PqFault → (Y → Type 0) → Type 0
-Refuses {Y} Broken Means = (y : Y) → Means y → ⊥
-Refuses OutOfMemory Means = ⊤
-Refuses fault Means = ⊥
+abbrev pub RefusesMeaning : {Y : Type 0} → PqFault → (Y → Type 0) → Type 0
+RefusesMeaning {Y} Broken Means = (y : Y) → Means y → ⊥
+RefusesMeaning OutOfMemory Means = ⊤
+RefusesMeaning fault Means = ⊥
 
 -- what is meant is found; or nothing is meant
 abbrev pub Finds : {X Y : Type 0} → (X → Y) → Result X PqFault → (Y → Type 0) → Type 0
 Finds view (Ok x) Means = Means (view x)
-Finds view (Err fault) Means = Refuses fault Means
+Finds view (Err fault) Means = RefusesMeaning fault Means
 
 -- Whatever is meant has this number; or nothing is meant.
 abbrev pub Tells : {Y : Type 0} → (Y → ℕ) → Result ℕ PqFault → (Y → Type 0) → Type 0
 Tells {Y} number (Ok n) Means = (y : Y) → Means y → number y ≡ n
-Tells number (Err fault) Means = Refuses fault Means
+Tells number (Err fault) Means = RefusesMeaning fault Means
 
 -- bytes begin with runs of so many numbers
 pub record HoldRuns (width count : ℕ) (bytes numbers : List ℕ) : Type 0 where
@@ -32,9 +32,9 @@ pub record HoldRuns (width count : ℕ) (bytes numbers : List ℕ) : Type 0 wher
 -- ---- levels
 
 -- levels of a page, all 0 where none are kept
-abbrev pub levels_of : ℕ → Option (Vec ℕ Global) → List ℕ
-levels_of count None = replicate count 0
-levels_of count (Some levels) = levels.items
+abbrev pub levels_on_page : ℕ → Option (Vec ℕ Global) → List ℕ
+levels_on_page count None = replicate count 0
+levels_on_page count (Some levels) = levels.items
 
 -- how many levels are the greatest
 abbrev pub full_count : ℕ → List ℕ → ℕ

@@ -3,7 +3,7 @@
 ghost use Rattle.std.specs.Prelude.{◌≡◌, map, option_map};
 ghost use Rattle.dk_pqmeta.specs.View.{chunk_view, group_view};
 ghost use Rattle.dk_pqread.specs.ColumnView.{column_at};
-ghost use Rattle.dk_pqread.specs.Counts.{chunk_agrees, column_agrees, counts_agree, group_agrees, groups_agree, have_rows, may_have};
+ghost use Rattle.dk_pqread.specs.Counts.{chunk_agrees, column_agrees, counts_agree, group_agrees, groups_agree, have_rows, may_have_triples};
 
 use crate::column::Column;
 use crate::scan::chunk_of;
@@ -70,7 +70,7 @@ fn chunk_agrees(rep: u8, rows: u64, chunk: Option<&Chunk>) -> bool
 
 /// Whether a column of so many rows may have so many triples.
 fn may_have(rep: u8, rows: u64, triples: u64) -> bool
-    ensures { result ≡ may_have rep rows triples }
+    ensures { result ≡ may_have_triples rep rows triples }
 {
     if rep == 0 {
         triples == rows

@@ -1,7 +1,7 @@
 //! The wanted rows of row groups.
 
 ghost use Rattle.std.specs.Prelude.{◌≡◌, [], false, IfOk, IsTrue, All, map};
-ghost use Rattle.dk_levels.specs.Solid.{IsReadable};
+ghost use Rattle.dk_levels.specs.Solid.{AreReadable};
 ghost use Rattle.dk_pqmeta.specs.View.{group_view};
 ghost use Rattle.dk_pqmodel.specs.FileMeans.{HasRows, columns_of};
 ghost use Rattle.dk_pqmodel.specs.Footer.{is_new_each};
@@ -35,7 +35,7 @@ pub(crate) fn read_groups(
     groups: &[RowGroup],
 ) -> Result<Vec<Row>, PqFault>
     requires read { map column_at columns.now ≡ columns_of (plans_of plans.now) 0 0 }
-    requires readable { all_missing (plans_of plans.now) ≡ false → IsReadable (projected_fields (plans_of plans.now)) }
+    requires readable { all_missing (plans_of plans.now) ≡ false → AreReadable (projected_fields (plans_of plans.now)) }
     // No two chunks of a group have one path, as in every footer.
     requires distinct { All (λ group. IsTrue (is_new_each [] (group_view group).columns)) groups.now }
     ensures { Finds (λ v. rows_of v.items) result (GroupsMean before.now (plans_of plans.now) (map group_view groups.now)) }
@@ -60,7 +60,7 @@ fn add_group(
 ) -> Result<(), PqFault>
     requires read { map column_at columns.now ≡ columns_of (plans_of plans.now) 0 0 }
     requires cut { fields_of nodes.now ≡ projected_fields (plans_of plans.now) }
-    requires readable { all_missing (plans_of plans.now) ≡ false → IsReadable (projected_fields (plans_of plans.now)) }
+    requires readable { all_missing (plans_of plans.now) ≡ false → AreReadable (projected_fields (plans_of plans.now)) }
     requires distinct { IsTrue (is_new_each [] (group_view group.now).columns) }
     ensures { Finds (λ _. rows_of rows.new.items) result (AddsRows (rows_of rows.old.items) (GroupMeans before.now (plans_of plans.now) (group_view group.now))) }
 {
@@ -79,7 +79,7 @@ fn own_rows(
 ) -> Result<Vec<Row>, PqFault>
     requires read { map column_at columns.now ≡ columns_of (plans_of plans.now) 0 0 }
     requires cut { fields_of nodes.now ≡ projected_fields (plans_of plans.now) }
-    requires readable { all_missing (plans_of plans.now) ≡ false → IsReadable (projected_fields (plans_of plans.now)) }
+    requires readable { all_missing (plans_of plans.now) ≡ false → AreReadable (projected_fields (plans_of plans.now)) }
     requires distinct { IsTrue (is_new_each [] (group_view group.now).columns) }
     ensures { Finds (λ v. rows_of v.items) result (HasRows before.now (plans_of plans.now) (group_view group.now)) }
 {

@@ -2,7 +2,7 @@
 
 ghost use Rattle.std.specs.Prelude.{◌≡◌, ◌<◌, ◌≤◌, ◌==◌, IfOk, count_by, length};
 ghost use Rattle.dk_pqmodel.specs.FilePages.{HoldLevels, IsWidth};
-ghost use Rattle.dk_pqread.specs.Meanings.{Finds, Tells, HoldRuns, full_count, levels_of};
+ghost use Rattle.dk_pqread.specs.Meanings.{Finds, Tells, HoldRuns, full_count, levels_on_page};
 
 use dk_hybrid::{HybridFault, count_equal, decode};
 use dk_pqmodel::PqFault;
@@ -33,7 +33,7 @@ pub(crate) fn read_levels(
     bytes: &[u8],
     count: usize,
 ) -> Result<Option<Vec<u32>>, PqFault>
-    ensures { Finds (levels_of count) result (λ levels. (length levels ≡ count) × HoldLevels greatest levels bytes.now) }
+    ensures { Finds (levels_on_page count) result (λ levels. (length levels ≡ count) × HoldLevels greatest levels bytes.now) }
 {
     if greatest == 0 {
         return Ok(None);
@@ -80,7 +80,7 @@ fn width(greatest: u8) -> u8
 
 /// How many of so many levels are the greatest.
 pub(crate) fn count_full(levels: &Option<Vec<u32>>, greatest: u8, count: usize) -> usize
-    ensures { result ≡ full_count greatest (levels_of count levels.now) }
+    ensures { result ≡ full_count greatest (levels_on_page count levels.now) }
 {
     match levels {
         Some(levels) => levels

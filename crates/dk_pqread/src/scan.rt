@@ -6,7 +6,7 @@ ghost use Rattle.dk_pqmeta.specs.View.{chunk_view, group_view};
 ghost use Rattle.dk_pqread.specs.ColumnView.{column_at};
 ghost use Rattle.dk_pqread.specs.LeafView.{leaf_of};
 ghost use Rattle.dk_pqread.specs.PlanView.{path_of};
-ghost use Rattle.dk_pqmodel.specs.Scans.{chunk_at, code_in, codec_in, codec_of, first_compressed, first_place, first_unread, is_level_code, is_read, is_value_code, unread_code, unread_in, values_in};
+ghost use Rattle.dk_pqmodel.specs.Scans.{chunk_at, code_in, codec_in, codec_of, first_compressed, first_place, first_unread, is_level_code, is_read_code, is_value_code, unread_code, unread_in, values_on_page};
 
 use crate::column::Column;
 use crate::leaf::Leaf;
@@ -137,7 +137,7 @@ pub(crate) fn first_place(chunk: &Chunk) -> u64
 
 /// How many values of the column a page holds.
 fn values_in(kind: PageKind, values: u32) -> u32
-    ensures { result ≡ values_in kind values }
+    ensures { result ≡ values_on_page kind values }
 {
     match kind {
         PageKind::DataV1 | PageKind::DataV2 => values,
@@ -168,7 +168,7 @@ pub(crate) fn is_level_code(greatest: u8, code: i32) -> bool
 }
 
 fn is_read(page: PageKind, kind: Leaf, code: i32) -> bool
-    ensures { result ≡ is_read page (leaf_of kind) code }
+    ensures { result ≡ is_read_code page (leaf_of kind) code }
 {
     match page {
         PageKind::DataV1 | PageKind::DataV2 => is_value_code(kind, code),

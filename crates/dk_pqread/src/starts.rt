@@ -6,7 +6,7 @@ ghost use Rattle.dk_pqmeta.specs.View.{chunk_view, group_view};
 ghost use Rattle.dk_pqmodel.specs.FileMeans.{HasTriples};
 ghost use Rattle.dk_pqmodel.specs.Footer.{is_new_each};
 ghost use Rattle.dk_pqread.specs.ColumnView.{column_at};
-ghost use Rattle.dk_pqread.specs.Meanings.{Refuses, Tells};
+ghost use Rattle.dk_pqread.specs.Meanings.{RefusesMeaning, Tells};
 ghost use Rattle.dk_pqread.specs.Starts.{AllBeginRows, BeginRows, BeginsRows, OnPage, OnPages, starts};
 
 use crate::column::Column;
@@ -28,7 +28,7 @@ pub(crate) fn rows_begin(
 ) -> Result<(), PqFault>
     // No two chunks of a group have one path, as in every footer.
     requires { All (λ group. IsTrue (is_new_each [] (group_view group).columns)) groups.now }
-    ensures { IfErr result (λ fault. Refuses fault (AllBeginRows before.now (map column_at columns.now) (map group_view groups.now))) }
+    ensures { IfErr result (λ fault. RefusesMeaning fault (AllBeginRows before.now (map column_at columns.now) (map group_view groups.now))) }
 {
     for group in groups {
         group_begins(alloc, before, columns, group)?;
@@ -43,7 +43,7 @@ fn group_begins(
     group: &RowGroup,
 ) -> Result<(), PqFault>
     requires { IsTrue (is_new_each [] (group_view group.now).columns) }
-    ensures { IfErr result (λ fault. Refuses fault (BeginRows before.now (group_view group.now) (map column_at columns.now))) }
+    ensures { IfErr result (λ fault. RefusesMeaning fault (BeginRows before.now (group_view group.now) (map column_at columns.now))) }
 {
     for column in columns {
         column_begins(alloc, before, column, group)?;
@@ -59,7 +59,7 @@ fn column_begins(
     group: &RowGroup,
 ) -> Result<(), PqFault>
     requires { IsTrue (is_new_each [] (group_view group.now).columns) }
-    ensures { IfErr result (λ fault. Refuses fault (BeginsRows before.now (group_view group.now) (column_at column.now))) }
+    ensures { IfErr result (λ fault. RefusesMeaning fault (BeginsRows before.now (group_view group.now) (column_at column.now))) }
 {
     if column.rep == 0 {
         return Ok(());

@@ -3,7 +3,7 @@
 ghost use Rattle.std.specs.Prelude.{◌≡◌, ◌<◌, MatchOption, Some, length, map, slice_get, vec_len};
 ghost use Rattle.dk_levels.specs.Answers.{GivesMeant};
 ghost use Rattle.dk_pqmodel.specs.ColumnView.{column_of, triple_of, value_of};
-ghost use Rattle.dk_pqread.specs.Meanings.{levels_of, one_triple, triples_then, zipped};
+ghost use Rattle.dk_pqread.specs.Meanings.{levels_on_page, one_triple, triples_then, zipped};
 ghost use Rattle.std.specs.Vec.Iter.{into_iter_items};
 
 use crate::column::Column;
@@ -20,10 +20,10 @@ pub(crate) fn add_triples(
     values: Vec<Value>,
     count: usize,
 ) -> Result<(), PqFault>
-    requires reps { length (levels_of count repetitions.now) ≡ count }
-    requires defs { length (levels_of count definitions.now) ≡ count }
+    requires reps { length (levels_on_page count repetitions.now) ≡ count }
+    requires defs { length (levels_on_page count definitions.now) ≡ count }
     ensures { GivesMeant (λ _. column_of triples.new) result
-        (triples_then (column_of triples.old) (zipped column.now.rep column.now.def (levels_of count repetitions.now) (levels_of count definitions.now) (map value_of values.items))) }
+        (triples_then (column_of triples.old) (zipped column.now.rep column.now.def (levels_on_page count repetitions.now) (levels_on_page count definitions.now) (map value_of values.items))) }
 {
     triples.reserve(room(definitions, &values))?;
     let mut values = values.into_iter();
@@ -79,9 +79,9 @@ fn triple(
 
 /// The level at a place.
 fn level(levels: &Option<Vec<u32>>, place: usize, count: usize) -> u32
-    requires all { length (levels_of count levels.now) ≡ count }
+    requires all { length (levels_on_page count levels.now) ≡ count }
     requires within { place < count }
-    ensures { slice_get (levels_of count levels.now) place ≡ Some result }
+    ensures { slice_get (levels_on_page count levels.now) place ≡ Some result }
 {
     match levels {
         Some(levels) => levels[place],

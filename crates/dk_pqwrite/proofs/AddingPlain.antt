@@ -19,11 +19,11 @@ use Rattle.dk_pqmodel.specs.Datum.{Value, Triple, Column}
 use Rattle.dk_pqmodel.specs.Fits.{fits_leaf, in_i32}
 use Rattle.dk_pqmodel.specs.FilePages.{IsPlainOf, ArePlainOf, InPlain}
 use Rattle.dk_pqmodel.specs.Weight.{text_length}
-use Rattle.dk_levels.specs.Borrowed.{triple_of, value_of}
+use Rattle.dk_levels.specs.Borrowed.{borrowed_triple, borrowed_value}
 use Rattle.dk_levels.specs.declared.borrowed.BorrowedTriple.{BorrowedTriple}
-use Rattle.dk_pqwrite.specs.Adding.{Adds}
-use Rattle.dk_pqwrite.specs.PlainValues.{ArePlain, FitsEntry, flag_of, flags_in, plain_size}
-use Rattle.dk_pqwrite.specs.WrittenColumn.{values_in}
+use Rattle.dk_pqwrite.specs.Adding.{AddsBytes}
+use Rattle.dk_pqwrite.specs.PlainValues.{ArePlain, FitsEntry, flag_value, flags_in, plain_size}
+use Rattle.dk_pqwrite.specs.WrittenColumn.{values_of_column}
 
 -- ---- one value
 
@@ -46,8 +46,8 @@ both_bytes (p ∷ ps) qs = ap (λ bs. plain.plain_bytes p ++ bs) (both_bytes ps 
 both_size : (vs ws : List Value) → plain_size (vs ++ ws) ≡ plain_size vs + plain_size ws
 both_size vs ws = sum_by-append (λ v. 8 + text_length v) vs ws
 
-pub both_plain : (kind : Leaf) (vs ws : List Value) (old mid new : List ℕ) → Adds (ArePlain kind vs) (plain_size vs) old mid → Adds (ArePlain kind ws) (plain_size ws) mid new
-    → Adds (ArePlain kind (vs ++ ws)) (plain_size (vs ++ ws)) old new
+pub both_plain : (kind : Leaf) (vs ws : List Value) (old mid new : List ℕ) → AddsBytes (ArePlain kind vs) (plain_size vs) old mid → AddsBytes (ArePlain kind ws) (plain_size ws) mid new
+    → AddsBytes (ArePlain kind (vs ++ ws)) (plain_size (vs ++ ws)) old new
 both_plain kind vs ws old mid new h g = record {
   part = h.part ++ g.part;
   added = g.added ∙ ap (λ bs. bs ++ g.part) h.added ∙ append_assoc old h.part g.part;
@@ -85,7 +85,7 @@ complement_64 : (z : ℤ) → of_z w64 z ≡ complement 8 z
 complement_64 (pos n) = refl
 complement_64 (negsuc n) = refl
 
-pub adds_short : (z : ℤ) (n : ℕ) (old new bytes : List ℕ) → in_i32 z ≡ true → n ≡ of_z w32 z → bytes ≡ to_le_bytes w32 n → new ≡ old ++ bytes → Adds (ArePlain int32 (cell.int z ∷ [])) 8 old new
+pub adds_short : (z : ℤ) (n : ℕ) (old new bytes : List ℕ) → in_i32 z ≡ true → n ≡ of_z w32 z → bytes ≡ to_le_bytes w32 n → new ≡ old ++ bytes → AddsBytes (ArePlain int32 (cell.int z ∷ [])) 8 old new
 adds_short z n old new bytes fits cast is e = record {
   part = little 4 (complement 4 z);
   added = e ∙ ap (λ bs. old ++ bs) (is ∙ little_4 n ∙ ap (little 4) (cast ∙ complement_32 z));
@@ -93,7 +93,7 @@ adds_short z n old new bytes fits cast is e = record {
   size = omega (arith, length-digits_of 256 4 (complement 4 z));
 }
 
-pub adds_long : (z : ℤ) (n : ℕ) (old new bytes : List ℕ) → FitsSigned w64 z → n ≡ of_z w64 z → bytes ≡ to_le_bytes w64 n → new ≡ old ++ bytes → Adds (ArePlain int64 (cell.int z ∷ [])) 8 old new
+pub adds_long : (z : ℤ) (n : ℕ) (old new bytes : List ℕ) → FitsSigned w64 z → n ≡ of_z w64 z → bytes ≡ to_le_bytes w64 n → new ≡ old ++ bytes → AddsBytes (ArePlain int64 (cell.int z ∷ [])) 8 old new
 adds_long z n old new bytes fits cast is e = record {
   part = little 8 (complement 8 z);
   added = e ∙ ap (λ bs. old ++ bs) (is ∙ little_8 n ∙ ap (little 8) (cast ∙ complement_64 z));
@@ -101,7 +101,7 @@ adds_long z n old new bytes fits cast is e = record {
   size = omega (arith, length-digits_of 256 8 (complement 8 z));
 }
 
-pub adds_text : (text old new : List ℕ) → length text < 2 ^ 32 → is_utf8 text ≡ true → new ≡ old ++ (little 4 (length text) ++ text) → Adds (ArePlain chars (cell.chars text ∷ [])) (8 + length text) old new
+pub adds_text : (text old new : List ℕ) → length text < 2 ^ 32 → is_utf8 text ≡ true → new ≡ old ++ (little 4 (length text) ++ text) → AddsBytes (ArePlain chars (cell.chars text ∷ [])) (8 + length text) old new
 adds_text text old new short utf8 e = record {
   part = little 4 (length text) ++ text;
   added = e;
@@ -116,46 +116,46 @@ single None = refl
 single (Some x) = refl
 
 module _ (triples : List BorrowedTriple) (i : ℕ) (t : BorrowedTriple) (within : i < length triples) (there : t ≡ get_or triples i t) where
-  pub entries_more : map triple_of (take (i + 1) triples) ≡ map triple_of (take i triples) ++ triple_of t ∷ []
+  pub entries_more : map borrowed_triple (take (i + 1) triples) ≡ map borrowed_triple (take i triples) ++ borrowed_triple t ∷ []
   entries_more =
       let one_more : take (suc i) triples ≡ take i triples ++ get_or triples i t ∷ [] = take-suc triples i t within in
-      rw (add-one i, one_more, ← there) (map-append triple_of (take i triples) (t ∷ []))
+      rw (add-one i, one_more, ← there) (map-append borrowed_triple (take i triples) (t ∷ []))
 
-  pub flags_more : (b : Option Bool) → b ≡ option_and_then flag_of (triple_of t).value → flags_in (map triple_of (take (i + 1) triples)) ≡ flags_in (map triple_of (take i triples)) ++ option_to_list b
+  pub flags_more : (b : Option Bool) → b ≡ option_and_then flag_value (borrowed_triple t).value → flags_in (map borrowed_triple (take (i + 1) triples)) ≡ flags_in (map borrowed_triple (take i triples)) ++ option_to_list b
   flags_more b e =
-      let both = filter_map-append (λ (x : Triple). option_and_then flag_of x.value) (map triple_of (take i triples)) (triple_of t ∷ []) in
-      rw (entries_more, e) (both ∙ ap (λ xs. flags_in (map triple_of (take i triples)) ++ xs) (single (option_and_then flag_of (triple_of t).value)))
+      let both = filter_map-append (λ (x : Triple). option_and_then flag_value x.value) (map borrowed_triple (take i triples)) (borrowed_triple t ∷ []) in
+      rw (entries_more, e) (both ∙ ap (λ xs. flags_in (map borrowed_triple (take i triples)) ++ xs) (single (option_and_then flag_value (borrowed_triple t).value)))
 
-  values_more : values_in (map triple_of (take (i + 1) triples)) ≡ values_in (map triple_of (take i triples)) ++ option_to_list (value_of t.value)
+  values_more : values_of_column (map borrowed_triple (take (i + 1) triples)) ≡ values_of_column (map borrowed_triple (take i triples)) ++ option_to_list (borrowed_value t.value)
   values_more =
-      let both = filter_map-append (λ (x : Triple). x.value) (map triple_of (take i triples)) (triple_of t ∷ []) in
-      rw entries_more (both ∙ ap (λ xs. values_in (map triple_of (take i triples)) ++ xs) (single (value_of t.value)))
+      let both = filter_map-append (λ (x : Triple). x.value) (map borrowed_triple (take i triples)) (borrowed_triple t ∷ []) in
+      rw entries_more (both ∙ ap (λ xs. values_of_column (map borrowed_triple (take i triples)) ++ xs) (single (borrowed_value t.value)))
 
 module _ (kind : Leaf) (triples : List BorrowedTriple) (i : ℕ) (t : BorrowedTriple) (within : i < length triples) (there : t ≡ get_or triples i t) where
-  pub fits_there : All (FitsEntry kind) (map triple_of triples) → FitsEntry kind (triple_of t)
+  pub fits_there : All (FitsEntry kind) (map borrowed_triple triples) → FitsEntry kind (borrowed_triple t)
   fits_there h =
-      let here = All-get_or (FitsEntry kind) (map triple_of triples) i (triple_of t) (rw length-map within) h in
-      rw (get_or-map triple_of triples i t (triple_of t) within, ← there) at here
+      let here = All-get_or (FitsEntry kind) (map borrowed_triple triples) i (borrowed_triple t) (rw length-map within) h in
+      rw (get_or-map borrowed_triple triples i t (borrowed_triple t) within, ← there) at here
 
-  pub value_more : (old mid new : List ℕ) → Adds (ArePlain kind (values_in (map triple_of (take i triples)))) (plain_size (values_in (map triple_of (take i triples)))) old mid
-      → Adds (ArePlain kind (option_to_list (value_of t.value))) (plain_size (option_to_list (value_of t.value))) mid new
-      → Adds (ArePlain kind (values_in (map triple_of (take (i + 1) triples)))) (plain_size (values_in (map triple_of (take (i + 1) triples)))) old new
+  pub value_more : (old mid new : List ℕ) → AddsBytes (ArePlain kind (values_of_column (map borrowed_triple (take i triples)))) (plain_size (values_of_column (map borrowed_triple (take i triples)))) old mid
+      → AddsBytes (ArePlain kind (option_to_list (borrowed_value t.value))) (plain_size (option_to_list (borrowed_value t.value))) mid new
+      → AddsBytes (ArePlain kind (values_of_column (map borrowed_triple (take (i + 1) triples)))) (plain_size (values_of_column (map borrowed_triple (take (i + 1) triples)))) old new
   value_more old mid new h g =
-      rw (values_more triples i t within there) (both_plain kind (values_in (map triple_of (take i triples))) (option_to_list (value_of t.value)) old mid new h g)
+      rw (values_more triples i t within there) (both_plain kind (values_of_column (map borrowed_triple (take i triples))) (option_to_list (borrowed_value t.value)) old mid new h g)
 
 -- ---- flags
 
 pub not_true : false ≡ true → ⊥
 not_true h = cc
 
-first_flag : (r d : ℕ) (v : Option Value) (es : Column) → IfSome v (λ x. IsTrue (fits_leaf x flag) × (text_length x < 2 ^ 32)) → values_in es ≡ map cell.flag (flags_in es)
-    → values_in (record { repetition = r; definition = d; value = v } ∷ es) ≡ map cell.flag (flags_in (record { repetition = r; definition = d; value = v } ∷ es))
+first_flag : (r d : ℕ) (v : Option Value) (es : Column) → IfSome v (λ x. IsTrue (fits_leaf x flag) × (text_length x < 2 ^ 32)) → values_of_column es ≡ map cell.flag (flags_in es)
+    → values_of_column (record { repetition = r; definition = d; value = v } ∷ es) ≡ map cell.flag (flags_in (record { repetition = r; definition = d; value = v } ∷ es))
 first_flag r d None es fits rest = rest
 first_flag r d (Some (cell.flag b)) es fits rest = ap (λ vs. cell.flag b ∷ vs) rest
 first_flag r d (Some (cell.int n)) es fits rest = absurd (not_true fits.0)
 first_flag r d (Some (cell.chars t)) es fits rest = absurd (not_true fits.0)
 
-flag_values : (entries : Column) → All (FitsEntry flag) entries → values_in entries ≡ map cell.flag (flags_in entries)
+flag_values : (entries : Column) → All (FitsEntry flag) entries → values_of_column entries ≡ map cell.flag (flags_in entries)
 flag_values [] h = refl
 flag_values (e ∷ es) h = first_flag e.repetition e.definition e.value es (All-head (FitsEntry flag) e es h) (flag_values es (All-tail (FitsEntry flag) e es h))
 
@@ -163,13 +163,13 @@ pub as_many : (values : List Value) → length values ≤ plain_size values
 as_many [] = omega arith
 as_many (v ∷ vs) = omega (arith, as_many vs, sum_by-cons (λ x. 8 + text_length x) v vs)
 
-pub flags_in_plain : (entries : Column) (flags : List Bool) (old new : List ℕ) → All (FitsEntry flag) entries → flags ≡ flags_in entries → Adds (AreFlags flags) (length flags) old new
-    → Adds (InPlain flag (values_in entries)) (plain_size (values_in entries)) old new
+pub flags_in_plain : (entries : Column) (flags : List Bool) (old new : List ℕ) → All (FitsEntry flag) entries → flags ≡ flags_in entries → AddsBytes (AreFlags flags) (length flags) old new
+    → AddsBytes (InPlain flag (values_of_column entries)) (plain_size (values_of_column entries)) old new
 flags_in_plain entries flags old new fits e h =
-    let values : values_in entries ≡ map cell.flag flags = flag_values entries fits ∙ ap (map cell.flag) (sym e) in
+    let values : values_of_column entries ≡ map cell.flag flags = flag_values entries fits ∙ ap (map cell.flag) (sym e) in
     record {
       part = h.part;
       added = h.added;
       is = (flags, h.part, [], sym (append-nil h.part), h.is, values);
-      size = omega (arith, h.size, as_many (values_in entries), ap length values, length-map flags cell.flag);
+      size = omega (arith, h.size, as_many (values_of_column entries), ap length values, length-map flags cell.flag);
     }

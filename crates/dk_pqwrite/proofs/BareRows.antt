@@ -1,7 +1,7 @@
 -- Rows by a schema without its names are those of the schema: they have its form, the same triples, and are turned into themselves.
 use Rattle.std.proofs.Common.{◌≡◌, ℕ, ◌+◌, Bool, [], ◌∷◌, ◌++◌, codes, Some, None, option_map, replicate, refl, sym, ap, ap₂, subst, ◌∙◌, arith}
 use Rattle.std.proofs.lemmas.Bool.{false≢true}
-use Rattle.dk_pqmodel.specs.Shape.{Leaf, Shape, leaf, map_of, Field, field, Fields, no_fields, one_field, fields_at, element_at, shape_in, width_at, width_in, width_of, entry, root, name_in}
+use Rattle.dk_pqmodel.specs.Shape.{Leaf, Shape, leaf, map_of, Field, field, Fields, no_fields, one_field, fields_at, element_at, shape_in, width_at, width_in, width_of, entry, root, field_name}
 use Rattle.dk_pqmodel.specs.Shape as shape
 use Rattle.dk_pqmodel.specs.Datum.{Value, Datum, null, atom, group, list, Cells, no_cells, one_cell, single_triple}
 use Rattle.dk_pqmodel.specs.Fits.{CellBy, EachBy, AllBy, AreRowsOf, AreTriplesOf, is_of_kind}
@@ -134,7 +134,7 @@ bare_rows_of fs rows h = from_all is_of_kind rows (root fs) h
 
 -- ---- turned into themselves
 
-named_is_in : (f : Field) (path : Path) → own_plan_named f path ≡ own_plan_in f (path ++ name_in f ∷ [])
+named_is_in : (f : Field) (path : Path) → own_plan_named f path ≡ own_plan_in f (path ++ field_name f ∷ [])
 named_is_in (field name b s) path = refl
 
 module _ (test : Value → Leaf → Bool) where
@@ -161,7 +161,7 @@ module _ (test : Value → Leaf → Bool) where
     each_stays no_cells no_fields path h = refl
     each_stays no_cells (one_field f fs) path h = absurd h
     each_stays (one_cell c cs) no_fields path h = absurd h
-    each_stays (one_cell c cs) (one_field f fs) path h = rw (named_is_in f path, plan_there f (path ++ name_in f ∷ []), stays c f (path ++ name_in f ∷ []) h.0, each_stays cs fs path h.1) refl
+    each_stays (one_cell c cs) (one_field f fs) path h = rw (named_is_in f path, plan_there f (path ++ field_name f ∷ []), stays c f (path ++ field_name f ∷ []) h.0, each_stays cs fs path h.1) refl
 
     all_stay : (cs : Cells) (f : Field) (path : Path) → AllBy test cs f → turned_all (widened (own_plan_in f path)) cs ≡ Some cs
     all_stay no_cells f path h = refl

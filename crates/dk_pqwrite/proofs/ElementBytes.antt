@@ -3,14 +3,14 @@ use Rattle.std.proofs.Common.{◌≡◌, ◌<◌, ◌≤◌, ◌+◌, ◌^◌, �
 use Rattle.std.specs.Str.{is_utf8}
 use Rattle.dk_grammar.specs.Spelling.{binary_bytes, field_bytes}
 use Rattle.dk_grammar.specs.Thrift.{is_id}
-use Rattle.dk_grammar.specs.Structs.{Listed, SpellsNumberField}
+use Rattle.dk_grammar.specs.Structs.{FieldValues, SpellsNumberField}
 use Rattle.dk_grammar.specs.Lists.{Either, held, other, is_held, SpellsHeldOr}
 use Rattle.dk_grammar.proofs.WrittenSpellings.{whole_written, binary_written}
 use Rattle.dk_pqmodel.specs.FooterBytes.{SpellsName}
-use Rattle.dk_pqwrite.specs.Said.{SpellsElementSaid, element_of}
-use Rattle.dk_thrift.specs.Writing.{Writing, with_bytes, with_struct, with_end}
+use Rattle.dk_pqwrite.specs.Said.{SpellsElementSaid, said_element}
+use Rattle.dk_thrift.specs.Writing.{WrittenSoFar, with_bytes, with_struct, with_end}
 use Rattle.dk_pqwrite.specs.FooterSizes.{element_size, name_size}
-use Rattle.dk_pqwrite.specs.Items.{Item, IsSmall, number_item, text_item, optional_items, items_bytes, struct_bytes, with_items}
+use Rattle.dk_pqwrite.specs.Items.{Item, IsWithin32Bits, number_item, text_item, optional_items, items_bytes, struct_bytes, with_items}
 use Rattle.dk_pqwrite.specs.Elements.{element_items, fields_said}
 use Rattle.dk_pqwrite.proofs.NumberSizes.{whole_32, name_short}
 use Rattle.dk_pqwrite.proofs.Structs.{Says, struct_spelled, at_most, item_short, items_then, struct_ended}
@@ -27,25 +27,25 @@ Part = Either (List ℕ) ℤ
 abbrev spells : ℤ → ℕ → List ℕ → Option Part → Type 0
 spells = SpellsHeldOr (pos 4) 8 SpellsName SpellsNumberField
 
-abbrev optional_part : ℕ → Option ℕ → Listed Part → Listed Part
+abbrev optional_part : ℕ → Option ℕ → FieldValues Part → FieldValues Part
 optional_part id None more = more
 optional_part id (Some n) more = (pos id, other (pos n)) ∷ more
 
 -- a number under an id, behind which other fields stand
-optional_says : (id : ℕ) (n : Option ℕ) (items : List Item) (more : Listed Part) → is_id (pos id) ≡ true → is_held (pos 4) 8 (pos id) 5 ≡ false → IsSmall n → Says spells items more
+optional_says : (id : ℕ) (n : Option ℕ) (items : List Item) (more : FieldValues Part) → is_id (pos id) ≡ true → is_held (pos 4) 8 (pos id) 5 ≡ false → IsWithin32Bits n → Says spells items more
     → Says spells (optional_items id 5 n ++ items) (optional_part id n more)
 optional_says id None items more fits apart h s = s
 optional_says id (Some n) items more fits apart h s = (Some (other (pos n)), (more, (refl, fits, refl, (apart, (refl, whole_written (pos n) (far n h))), s)))
 
-last_says : (id : ℕ) (n : Option ℕ) → is_id (pos id) ≡ true → is_held (pos 4) 8 (pos id) 5 ≡ false → IsSmall n → Says spells (optional_items id 5 n) (optional_part id n [])
+last_says : (id : ℕ) (n : Option ℕ) → is_id (pos id) ≡ true → is_held (pos 4) 8 (pos id) 5 ≡ false → IsWithin32Bits n → Says spells (optional_items id 5 n) (optional_part id n [])
 last_says id None fits apart h = refl
 last_says id (Some n) fits apart h = (Some (other (pos n)), ([], (refl, fits, refl, (apart, (refl, whole_written (pos n) (far n h))), refl)))
 
-abbrev parts : List ℕ → Option ℕ → Option ℕ → Option ℕ → Option ℕ → Listed Part
+abbrev parts : List ℕ → Option ℕ → Option ℕ → Option ℕ → Option ℕ → FieldValues Part
 parts name repetition physical children converted =
     optional_part 1 physical (optional_part 3 repetition ((pos 4, held name) ∷ optional_part 5 children (optional_part 6 converted [])))
 
-read_back : (name : List ℕ) (repetition physical children converted : Option ℕ) → fields_said name repetition physical children converted ≡ element_of (parts name repetition physical children converted)
+read_back : (name : List ℕ) (repetition physical children converted : Option ℕ) → fields_said name repetition physical children converted ≡ said_element (parts name repetition physical children converted)
 read_back name None None None None = refl
 read_back name None None None (Some v) = refl
 read_back name None None (Some c) None = refl
@@ -64,7 +64,7 @@ read_back name (Some r) (Some p) (Some c) None = refl
 read_back name (Some r) (Some p) (Some c) (Some v) = refl
 
 pub element_spelled : (name : List ℕ) (repetition physical children converted : Option ℕ) → is_utf8 name ≡ true → length name < 2 ^ 64
-    → IsSmall repetition → IsSmall physical → IsSmall children → IsSmall converted
+    → IsWithin32Bits repetition → IsWithin32Bits physical → IsWithin32Bits children → IsWithin32Bits converted
     → SpellsElementSaid (struct_bytes (element_items name repetition physical children converted)) (fields_said name repetition physical children converted)
 element_spelled name repetition physical children converted utf8 short r p c v = (
   parts name repetition physical children converted,
@@ -85,7 +85,7 @@ element_spelled name repetition physical children converted utf8 short r p c v =
   read_back name repetition physical children converted,
 )
 
-pub element_written : (name : List ℕ) (repetition physical children converted : Option ℕ) (old inner a b d e f new : Writing)
+pub element_written : (name : List ℕ) (repetition physical children converted : Option ℕ) (old inner a b d e f new : WrittenSoFar)
     → inner ≡ with_struct old → a ≡ with_items (optional_items 1 5 physical) inner → b ≡ with_items (optional_items 3 5 repetition) a → d ≡ with_items (text_item 4 name ∷ []) b
     → e ≡ with_items (optional_items 5 5 children) d → f ≡ with_items (optional_items 6 5 converted) e → new ≡ with_end f
     → new ≡ with_bytes (struct_bytes (element_items name repetition physical children converted)) old
@@ -100,16 +100,16 @@ element_written name repetition physical children converted old inner a b d e f 
 
 -- ---- how many bytes there are
 
-optional_short : (last : ℤ) (id : ℕ) (n : Option ℕ) (items : List Item) (most : ℕ) → IsSmall n → length (field_bytes last (pos id) 5) ≡ 1 → length (items_bytes last items) ≤ most
+optional_short : (last : ℤ) (id : ℕ) (n : Option ℕ) (items : List Item) (most : ℕ) → IsWithin32Bits n → length (field_bytes last (pos id) 5) ≡ 1 → length (items_bytes last items) ≤ most
     → length (items_bytes (pos id) items) ≤ most → length (items_bytes last (optional_items id 5 n ++ items)) ≤ 6 + most
 optional_short last id None items most h one without behind = omega (arith, without)
 optional_short last id (Some n) items most h one without behind = item_short last (number_item id 5 n) items 5 most one (whole_32 n h) behind
 
-last_short : (last : ℤ) (id : ℕ) (n : Option ℕ) → IsSmall n → length (field_bytes last (pos id) 5) ≡ 1 → length (items_bytes last (optional_items id 5 n)) ≤ 7
+last_short : (last : ℤ) (id : ℕ) (n : Option ℕ) → IsWithin32Bits n → length (field_bytes last (pos id) 5) ≡ 1 → length (items_bytes last (optional_items id 5 n)) ≤ 7
 last_short last id None h one = omega arith
 last_short last id (Some n) h one = item_short last (number_item id 5 n) [] 5 1 one (whole_32 n h) (omega arith)
 
-module _ (name : List ℕ) (repetition physical children converted : Option ℕ) (own : ℕ) (r : IsSmall repetition) (p : IsSmall physical) (c : IsSmall children) (v : IsSmall converted) where
+module _ (name : List ℕ) (repetition physical children converted : Option ℕ) (own : ℕ) (r : IsWithin32Bits repetition) (p : IsWithin32Bits physical) (c : IsWithin32Bits children) (v : IsWithin32Bits converted) where
   abbrev behind_name : List Item
   behind_name = optional_items 5 5 children ++ optional_items 6 5 converted
 
@@ -134,6 +134,6 @@ module _ (name : List ℕ) (repetition physical children converted : Option ℕ)
       at_most (struct_bytes (element_items name repetition physical children converted)) (6 + (6 + (14 + own))) (26 + own)
       (optional_short (pos 0) 1 physical from_repetition (6 + (14 + own)) p refl (repetition_within (pos 0) few refl refl) (repetition_within (pos 1) few refl refl)) (omega arith)
 
-pub element_short : (name : List ℕ) (repetition physical children converted : Option ℕ) → length name < 2 ^ 64 → IsSmall repetition → IsSmall physical → IsSmall children → IsSmall converted
+pub element_short : (name : List ℕ) (repetition physical children converted : Option ℕ) → length name < 2 ^ 64 → IsWithin32Bits repetition → IsWithin32Bits physical → IsWithin32Bits children → IsWithin32Bits converted
     → length (struct_bytes (element_items name repetition physical children converted)) ≤ element_size (fields_said name repetition physical children converted)
 element_short name repetition physical children converted short r p c v = element_within name repetition physical children converted (name_size name) r p c v (name_short name short)

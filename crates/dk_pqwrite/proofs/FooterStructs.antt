@@ -1,16 +1,16 @@
 -- The structs of a footer, as they are written.
 use Rattle.std.proofs.Common.{◌≡◌, ◌<◌, ◌≤◌, ◌+◌, ◌^◌, ℕ, Bool, true, false, ℤ, pos, Option, Some, None, option_map, IfSome, List, [], ◌∷◌, length, map, is_some, refl, ◌∙◌, lit<, arith, FitsSigned, w64}
 use Rattle.dk_grammar.specs.Grammar.{SpellsWhole}
-use Rattle.dk_grammar.specs.Structs.{Listed, SpellsNumberField}
+use Rattle.dk_grammar.specs.Structs.{FieldValues, SpellsNumberField}
 use Rattle.dk_grammar.specs.Lists.{Either, held, other, SpellsListOf, SpellsHeldOr}
 use Rattle.dk_grammar.proofs.WrittenSpellings.{whole_written}
-use Rattle.dk_thrift.specs.Writing.{Writing, IsOpen, with_bytes, with_struct, with_end}
+use Rattle.dk_thrift.specs.Writing.{WrittenSoFar, IsOpen, with_bytes, with_struct, with_end}
 use Rattle.dk_pqmodel.specs.Projection.{Path}
 use Rattle.dk_pqmodel.specs.FooterBytes.{SpellsPath}
 use Rattle.dk_pqwrite.specs.Said.{MetaSaid, MetaPart, meta_of, SpellsMetaSaid, ChunkSaid, SpellsChunkSaid, SpellsGroupSaid}
 use Rattle.dk_pqwrite.specs.declared.chunk.Chunk.{Chunk}
 use Rattle.dk_pqwrite.specs.Chunks.{IsFit, path_of_chunk, meta_said, encodings_of}
-use Rattle.dk_pqwrite.specs.Items.{Item, number_item, optional_items, items_bytes, struct_bytes, with_items, Puts, Writes, PutsHeld}
+use Rattle.dk_pqwrite.specs.Items.{Item, number_item, optional_items, items_bytes, struct_bytes, with_items, Puts, WritesValue, PutsHeld}
 use Rattle.dk_pqwrite.proofs.NumberSizes.{whole_8, whole_32, whole_64}
 use Rattle.dk_pqwrite.proofs.Structs.{Says, struct_spelled, at_most, item_short, items_then, struct_ended, still_open}
 
@@ -25,7 +25,7 @@ meta_spells = SpellsHeldOr (pos 2) 9 (SpellsListOf 5 SpellsWhole) (SpellsHeldOr 
 abbrev pub item : ℕ → ℕ → List ℕ → Item
 item id kind bytes = record { id = pos id; kind = kind; bytes = bytes }
 
-abbrev place_part : Option ℕ → Listed MetaPart
+abbrev place_part : Option ℕ → FieldValues MetaPart
 place_part None = []
 place_part (Some n) = (pos 11, other (other (pos n))) ∷ []
 
@@ -41,7 +41,7 @@ meta_items physical encodings path values size first place =
     number_item 1 5 physical ∷ item 2 9 encodings ∷ item 3 9 path ∷ number_item 4 5 0 ∷ number_item 5 6 values ∷ number_item 6 6 size ∷ number_item 7 6 size ∷ number_item 9 6 first
     ∷ optional_items 11 6 place
 
-abbrev meta_parts : ℕ → List ℤ → Path → ℕ → ℕ → ℕ → Option ℕ → Listed MetaPart
+abbrev meta_parts : ℕ → List ℤ → Path → ℕ → ℕ → ℕ → Option ℕ → FieldValues MetaPart
 meta_parts physical codes path values size first place =
     (pos 1, other (other (pos physical))) ∷ (pos 2, held codes) ∷ (pos 3, other (held path)) ∷ (pos 4, other (other (pos 0))) ∷ (pos 5, other (other (pos values))) ∷ (pos 6, other (other (pos size))) ∷ (pos 7, other (other (pos size))) ∷ (pos 9, other (other (pos first)))
     ∷ place_part place
@@ -194,7 +194,7 @@ meta_short physical encodings path values size first place few short p e h v s f
     let s1 = item_short (pos 0) (number_item 1 5 physical) i2 5 (1 + few + (1 + short + 62)) refl (whole_32 physical (omega (arith, p))) s2 in
     at_most (struct_bytes (number_item 1 5 physical ∷ i2)) (1 + 5 + (1 + few + (1 + short + 62))) (70 + few + short) s1 (omega arith)
 
-abbrev pub With : List Item → Writing → Writing → Type 0
+abbrev pub With : List Item → WrittenSoFar → WrittenSoFar → Type 0
 With items old new = new ≡ with_items items old
 
 said_by : (c : Chunk) (encodings : List ℤ) → encodings ≡ map pos (encodings_of (is_some c.dictionary_page)) → meta_said c ≡ record {
@@ -205,10 +205,10 @@ said_by : (c : Chunk) (encodings : List ℤ) → encodings ≡ map pos (encoding
 }
 said_by c encodings coded = rw coded refl
 
-module _ (c : Chunk) (fit : IsFit c) (old inner a : Writing) (d e f g h i j k new : Writing) (encodings : List ℤ) (few short most : ℕ) where
+module _ (c : Chunk) (fit : IsFit c) (old inner a : WrittenSoFar) (d e f g h i j k new : WrittenSoFar) (encodings : List ℤ) (few short most : ℕ) where
   pub meta_added : 70 + few + short ≤ most → c.physical < 2 ^ 63 → encodings ≡ map pos (encodings_of (is_some c.dictionary_page)) → IsOpen old → inner ≡ with_struct old → Puts (number_item 1 5 c.physical ∷ []) inner a
       → PutsHeld 2 9 (SpellsListOf 5 SpellsWhole) encodings few a d → PutsHeld 3 9 SpellsPath (path_of_chunk c) short d e → Puts (number_item 4 5 0 ∷ []) e f → Puts (number_item 5 6 c.values ∷ []) f g → Puts (number_item 6 6 c.size ∷ []) g h
-      → Puts (number_item 7 6 c.size ∷ []) h i → Puts (number_item 9 6 c.first_page ∷ []) i j → Puts (optional_items 11 6 c.dictionary_page) j k → new ≡ with_end k → Writes SpellsMetaSaid (meta_said c) most old new
+      → Puts (number_item 7 6 c.size ∷ []) h i → Puts (number_item 9 6 c.first_page ∷ []) i j → Puts (optional_items 11 6 c.dictionary_page) j k → new ≡ with_end k → WritesValue SpellsMetaSaid (meta_said c) most old new
   meta_added room small coded stands begun first second third fourth fifth sixth seventh eighth ninth ended =
       let i9 = optional_items 11 6 c.dictionary_page in
       let i8 = number_item 9 6 c.first_page ∷ i9 in
@@ -253,8 +253,8 @@ chunk_short bytes few h =
     let s1 = item_short (pos 0) (number_item 2 6 0) (item 3 12 bytes ∷ []) 2 (1 + few + 1) refl (whole_8 0 (lit< tt)) (item_short (pos 2) (item 3 12 bytes) [] few 1 refl h (omega arith)) in
     at_most (struct_bytes (number_item 2 6 0 ∷ item 3 12 bytes ∷ [])) (1 + 2 + (1 + few + 1)) (5 + few) s1 (omega arith)
 
-pub chunk_added : (m : MetaSaid) (few most : ℕ) (old inner a b new : Writing) → 5 + few ≤ most → IsOpen old → inner ≡ with_struct old → Puts (number_item 2 6 0 ∷ []) inner a
-    → PutsHeld 3 12 SpellsMetaSaid m few a b → new ≡ with_end b → Writes SpellsChunkSaid (record { metadata = Some m }) most old new
+pub chunk_added : (m : MetaSaid) (few most : ℕ) (old inner a b new : WrittenSoFar) → 5 + few ≤ most → IsOpen old → inner ≡ with_struct old → Puts (number_item 2 6 0 ∷ []) inner a
+    → PutsHeld 3 12 SpellsMetaSaid m few a b → new ≡ with_end b → WritesValue SpellsChunkSaid (record { metadata = Some m }) most old new
 chunk_added m few most old inner a b new room stands begun first second ended =
     let all = number_item 2 6 0 ∷ item 3 12 second.bytes ∷ [] in
     let whole : With all inner b = items_then (number_item 2 6 0 ∷ []) (item 3 12 second.bytes ∷ []) inner a b first.0 second.written in
@@ -285,9 +285,9 @@ group_short bytes size rows most small few h =
     let s2 : length (items_bytes (pos 1) i2) ≤ 23 = item_short (pos 1) (number_item 2 6 size) (number_item 3 6 rows ∷ []) 10 12 refl (whole_64 size small) s3 in
     at_most (struct_bytes (item 1 9 bytes ∷ i2)) (1 + most + 23) (24 + most) (item_short (pos 0) (item 1 9 bytes) i2 most 23 refl h s2) (omega arith)
 
-pub group_added : (chunks : List ChunkSaid) (size rows short most : ℕ) (old inner a b d new : Writing) → 24 + short ≤ most → size < 2 ^ 63 → rows < 2 ^ 63 → IsOpen old → inner ≡ with_struct old
+pub group_added : (chunks : List ChunkSaid) (size rows short most : ℕ) (old inner a b d new : WrittenSoFar) → 24 + short ≤ most → size < 2 ^ 63 → rows < 2 ^ 63 → IsOpen old → inner ≡ with_struct old
     → PutsHeld 1 9 (SpellsListOf 12 SpellsChunkSaid) chunks short inner a → Puts (number_item 2 6 size ∷ []) a b → Puts (number_item 3 6 rows ∷ []) b d → new ≡ with_end d
-    → Writes SpellsGroupSaid (record { columns = Some chunks; bytes = Some (pos size); rows = Some (pos rows) }) most old new
+    → WritesValue SpellsGroupSaid (record { columns = Some chunks; bytes = Some (pos size); rows = Some (pos rows) }) most old new
 group_added chunks size rows short most old inner a b d new room small few stands begun first second third ended =
     let i2 = number_item 2 6 size ∷ number_item 3 6 rows ∷ [] in
     let all = item 1 9 first.bytes ∷ i2 in

@@ -3,11 +3,11 @@ use Rattle.std.proofs.Common.{rules, ◌≡◌, ℕ, suc, ◌+◌, ◌^◌, ◌<
 use Rattle.std.proofs.lemmas.List.{length-append}
 use Rattle.dk_grammar.specs.Spelling.{field_bytes, whole_bytes, end_bytes}
 use Rattle.dk_grammar.specs.Thrift.{is_id}
-use Rattle.dk_grammar.specs.Structs.{Listed, SpellsFields, SpellsNumberField, SpellsStruct}
+use Rattle.dk_grammar.specs.Structs.{FieldValues, SpellsFields, SpellsNumberField, SpellsStruct}
 use Rattle.dk_grammar.specs.PageHeaders.{Part, number, inner, is_inner, SpellsPart, SpellsHeader}
 use Rattle.dk_grammar.proofs.WrittenSpellings.{whole_written, field_written, end_written}
-use Rattle.dk_thrift.specs.Writing.{Writing}
-use Rattle.dk_pqwrite.specs.HeaderBytes.{page_parts, data_numbers, dictionary_numbers, with_number, number_bytes, begun_bytes}
+use Rattle.dk_thrift.specs.Writing.{WrittenSoFar}
+use Rattle.dk_pqwrite.specs.HeaderBytes.{page_parts, data_numbers, dictionary_numbers, with_number_field, number_bytes, begun_bytes}
 use Rattle.dk_pqwrite.proofs.NumberSizes.{whole_32}
 
 -- a number below 2 to the 31 takes at most five bytes
@@ -23,24 +23,24 @@ fits_64 : (n : ℕ) → n < 2 ^ 31 → Fits64 (pos n)
 fits_64 n small = record { sfits = omega arith }
 
 -- a number in front of other fields of an inner header
-inner_number : (n : ℕ) (last id z : ℤ) (rest : List ℕ) (more : Listed ℤ) → IsTrue (is_id id) → Fits64 z → SpellsFields SpellsNumberField n id rest more
+inner_number : (n : ℕ) (last id z : ℤ) (rest : List ℕ) (more : FieldValues ℤ) → IsTrue (is_id id) → Fits64 z → SpellsFields SpellsNumberField n id rest more
     → SpellsFields SpellsNumberField (suc n) last (field_bytes last id 5 ++ (whole_bytes z ++ rest)) ((id, z) ∷ more)
 inner_number n last id z rest more fits small behind =
     (id, (5, (Some z, (more, (refl, (field_bytes last id 5, (whole_bytes z ++ rest, refl, field_written last id 5 fits refl, (whole_bytes z, (rest, refl, (refl, whole_written z small), behind)))))))))
 
 -- a number in front of other fields of a header
-own_number : (n : ℕ) (last id z : ℤ) (rest : List ℕ) (more : Listed Part) → IsTrue (is_id id) → IsFalse (is_inner id) → Fits64 z → SpellsFields SpellsPart n id rest more
+own_number : (n : ℕ) (last id z : ℤ) (rest : List ℕ) (more : FieldValues Part) → IsTrue (is_id id) → IsFalse (is_inner id) → Fits64 z → SpellsFields SpellsPart n id rest more
     → SpellsFields SpellsPart (suc n) last (field_bytes last id 5 ++ (whole_bytes z ++ rest)) ((id, number z) ∷ more)
 own_number n last id z rest more fits own small behind =
     (id, (5, (Some (number z), (more, (refl, (field_bytes last id 5, (whole_bytes z ++ rest, refl, field_written last id 5 fits refl, (whole_bytes z, (rest, refl, (rw own refl, (refl, whole_written z small)), behind)))))))))
 
 -- an inner header, and the end
-last_inner : (last id : ℤ) (bytes : List ℕ) (numbers : Listed ℤ) → IsTrue (is_id id) → IsTrue (is_inner id) → SpellsStruct SpellsNumberField bytes numbers
+last_inner : (last id : ℤ) (bytes : List ℕ) (numbers : FieldValues ℤ) → IsTrue (is_id id) → IsTrue (is_inner id) → SpellsStruct SpellsNumberField bytes numbers
     → SpellsFields SpellsPart 1 last (field_bytes last id 12 ++ (bytes ++ end_bytes)) ((id, inner numbers) ∷ [])
 last_inner last id bytes numbers fits known spelled =
     (id, (12, (Some (inner numbers), ([], (refl, (field_bytes last id 12, (bytes ++ end_bytes, refl, field_written last id 12 fits refl, (bytes, (end_bytes, refl, (rw known refl, spelled), (end_written id, refl))))))))))
 
-pub page_spelled : (type size : ℕ) (id : ℤ) (bytes : List ℕ) (numbers : Listed ℤ) → type < 2 ^ 31 → size < 2 ^ 31 → IsTrue (is_id id) → IsTrue (is_inner id)
+pub page_spelled : (type size : ℕ) (id : ℤ) (bytes : List ℕ) (numbers : FieldValues ℤ) → type < 2 ^ 31 → size < 2 ^ 31 → IsTrue (is_id id) → IsTrue (is_inner id)
     → SpellsStruct SpellsNumberField bytes numbers → SpellsHeader (begun_bytes (pos type) size id ++ (bytes ++ end_bytes)) (page_parts type size id numbers)
 page_spelled type size id bytes numbers small_type small_size fits known spelled =
     let whole : begun_bytes (pos type) size id ++ (bytes ++ end_bytes)
@@ -79,7 +79,7 @@ dictionary_inner count small = (
 )
 
 -- what is written of a header in turn
-pub record IsWritten (parts : Listed Part) (most : ℕ) (bytes : List ℕ) : Type 0 where
+pub record IsWritten (parts : FieldValues Part) (most : ℕ) (bytes : List ℕ) : Type 0 where
   pub spelled : SpellsHeader bytes parts
   pub short : length bytes ≤ most
 
@@ -113,10 +113,10 @@ dictionary_short count small =
 page_short : (begun bytes : List ℕ) (n : ℕ) → length begun ≤ 19 → length bytes ≤ n → length (begun ++ (bytes ++ end_bytes)) ≤ 20 + n
 page_short begun bytes n short few = omega (arith, short, few, length-append begun (bytes ++ end_bytes), length-append bytes end_bytes)
 
-added : (last id z : ℤ) (outer : List ℤ) (bytes : List ℕ) (w v : Writing) → w ≡ record { bytes = bytes; structs = last ∷ outer } → v ≡ with_number id z w
+added : (last id z : ℤ) (outer : List ℤ) (bytes : List ℕ) (w v : WrittenSoFar) → w ≡ record { bytes = bytes; structs = last ∷ outer } → v ≡ with_number_field id z w
     → v ≡ record { bytes = bytes ++ number_bytes last id z; structs = id ∷ outer }
 added last id z outer bytes w v e h =
-    h ∙ ap (with_number id z) e ∙ ap (λ more. record { bytes = more; structs = id ∷ outer }) (append_assoc bytes (field_bytes last id 5) (whole_bytes z))
+    h ∙ ap (with_number_field id z) e ∙ ap (λ more. record { bytes = more; structs = id ∷ outer }) (append_assoc bytes (field_bytes last id 5) (whole_bytes z))
 
 six_parts : (a b c d e f g : List ℕ) → ((((a ++ b) ++ c) ++ d) ++ e) ++ (f ++ g) ≡ a ++ ((b ++ (c ++ (d ++ (e ++ f)))) ++ g)
 six_parts a b c d e f g = search (rules, append_assoc)
@@ -124,9 +124,9 @@ six_parts a b c d e f g = search (rules, append_assoc)
 four_parts : (a b c f g : List ℕ) → ((a ++ b) ++ c) ++ (f ++ g) ≡ a ++ ((b ++ (c ++ f)) ++ g)
 four_parts a b c f g = search (rules, append_assoc)
 
-pub data_written : (count code size : ℕ) (w0 w1 w2 w3 w4 : Writing) (bytes : List ℕ)
-    → w0 ≡ record { bytes = begun_bytes (pos 0) size (pos 5); structs = pos 0 ∷ pos 5 ∷ [] } → w1 ≡ with_number (pos 1) (pos count) w0 → w2 ≡ with_number (pos 2) (pos code) w1
-    → w3 ≡ with_number (pos 3) (pos 3) w2 → w4 ≡ with_number (pos 4) (pos 3) w3 → bytes ≡ w4.bytes ++ (end_bytes ++ end_bytes)
+pub data_written : (count code size : ℕ) (w0 w1 w2 w3 w4 : WrittenSoFar) (bytes : List ℕ)
+    → w0 ≡ record { bytes = begun_bytes (pos 0) size (pos 5); structs = pos 0 ∷ pos 5 ∷ [] } → w1 ≡ with_number_field (pos 1) (pos count) w0 → w2 ≡ with_number_field (pos 2) (pos code) w1
+    → w3 ≡ with_number_field (pos 3) (pos 3) w2 → w4 ≡ with_number_field (pos 4) (pos 3) w3 → bytes ≡ w4.bytes ++ (end_bytes ++ end_bytes)
     → count < 2 ^ 31 → code < 2 ^ 31 → size < 2 ^ 31 → IsWritten (page_parts 0 size (pos 5) (data_numbers count code)) 45 bytes
 data_written count code size w0 w1 w2 w3 w4 bytes e0 e1 e2 e3 e4 e small_count small_code small_size =
     let begun = begun_bytes (pos 0) size (pos 5) in
@@ -145,8 +145,8 @@ data_written count code size w0 w1 w2 w3 w4 bytes e0 e1 e2 e3 e4 e small_count s
       short = page_short (begun_bytes (pos 0) size (pos 5)) (data_bytes count code) 25 (begun_short 0 size (pos 5) (omega arith) small_size refl) (data_short count code small_count small_code);
     }
 
-pub dictionary_written : (count size : ℕ) (w0 w1 w2 : Writing) (bytes : List ℕ)
-    → w0 ≡ record { bytes = begun_bytes (pos 2) size (pos 7); structs = pos 0 ∷ pos 7 ∷ [] } → w1 ≡ with_number (pos 1) (pos count) w0 → w2 ≡ with_number (pos 2) (pos 0) w1
+pub dictionary_written : (count size : ℕ) (w0 w1 w2 : WrittenSoFar) (bytes : List ℕ)
+    → w0 ≡ record { bytes = begun_bytes (pos 2) size (pos 7); structs = pos 0 ∷ pos 7 ∷ [] } → w1 ≡ with_number_field (pos 1) (pos count) w0 → w2 ≡ with_number_field (pos 2) (pos 0) w1
     → bytes ≡ w2.bytes ++ (end_bytes ++ end_bytes) → count < 2 ^ 31 → size < 2 ^ 31 → IsWritten (page_parts 2 size (pos 7) (dictionary_numbers count)) 33 bytes
 dictionary_written count size w0 w1 w2 bytes e0 e1 e2 e small_count small_size =
     let begun = begun_bytes (pos 2) size (pos 7) in

@@ -1,7 +1,7 @@
 -- No two of one name, however they are counted.
 use Rattle.std.proofs.Common.{◌≡◌, ℕ, Bool, true, false, not, List, [], ◌∷◌, ◌++◌, refl, sym, ◌∙◌}
 use Rattle.std.specs.Str.{bytes_eq}
-use Rattle.dk_pqmodel.specs.Shape.{Field, Fields, one_field, name_in}
+use Rattle.dk_pqmodel.specs.Shape.{Field, Fields, one_field, field_name}
 use Rattle.dk_pqmodel.specs.Schema.{is_named}
 use Rattle.std.proofs.lemmas.Slice.Eq.{bytes_eq-Decides}
 use Rattle.std.proofs.lemmas.Bool.{or_parts, true≢false}
@@ -36,5 +36,5 @@ each_map f (x ∷ xs) h = (f x h.0, each_map f xs h.1)
 pub names_differ : (xs ys : List ℕ) → bytes_eq xs ys ≡ false → xs ≡ ys → ⊥
 names_differ xs ys h e = true≢false (sym ((bytes_eq-Decides xs ys).1 e) ∙ h)
 
-pub named_apart : (name : List ℕ) (f : Field) (fs : Fields) → is_named name (one_field f fs) ≡ false → (name ≡ name_in f → ⊥) × (is_named name fs ≡ false)
-named_apart name f fs h = let p = or_parts (bytes_eq name (name_in f)) (is_named name fs) h in (names_differ name (name_in f) p.0, p.1)
+pub named_apart : (name : List ℕ) (f : Field) (fs : Fields) → is_named name (one_field f fs) ≡ false → (name ≡ field_name f → ⊥) × (is_named name fs ≡ false)
+named_apart name f fs h = let p = or_parts (bytes_eq name (field_name f)) (is_named name fs) h in (names_differ name (field_name f) p.0, p.1)

@@ -3,7 +3,7 @@ use Rattle.std.proofs.Common.{◌≡◌, ◌<◌, ◌≤◌, ◌^◌, ℕ, suc, 
 use Rattle.std.proofs.lemmas.List.{length-append, drop_all, append-nil}
 use Rattle.std.proofs.lemmas.List.Sums.{sum_by-append}
 use Rattle.std.proofs.lemmas.Bool.{lt-ltb}
-use Rattle.dk_thrift.specs.Writing.{Writing, IsOpen}
+use Rattle.dk_thrift.specs.Writing.{WrittenSoFar, IsOpen}
 use Rattle.dk_pqmodel.specs.Shape.{flag, int32, int64, chars, Shape, leaf, map_of, Field, field, Fields, no_fields, one_field, shape_in, is_nullable}
 use Rattle.dk_pqmodel.specs.Shape as shape
 use Rattle.dk_pqmodel.specs.NodeView.{fields_of, field_of, shape_of}
@@ -36,7 +36,7 @@ each_then {A = A} {B = B} f (x ∷ xs) zs ys ws h k = by (f x) (each_of f xs) re
     by (Some y) None g t later = cc
     by (Some y) (Some more) g t later = rw (later more g) (ap (λ o. option_map (λ front. front ++ ws) o) t)
 
-pub elements_then : (fs gs : List ElementSaid) (es ds : List Element) (u v w : Writing) → WritesElements fs es u v → WritesElements gs ds v w → WritesElements (fs ++ gs) (es ++ ds) u w
+pub elements_then : (fs gs : List ElementSaid) (es ds : List Element) (u v w : WrittenSoFar) → WritesElements fs es u v → WritesElements gs ds v w → WritesElements (fs ++ gs) (es ++ ds) u w
 elements_then fs gs es ds u v w first second = record {
   more = first.more ++ second.more;
   written = bytes_behind first.more second.more u v w first.written second.written;
@@ -46,10 +46,10 @@ elements_then fs gs es ds u v w first second = record {
   goes_on = second.goes_on;
 }
 
-pub no_elements : (w : Writing) → IsOpen w → WritesNodes no_nodes w w
+pub no_elements : (w : WrittenSoFar) → IsOpen w → WritesNodes no_nodes w w
 no_elements w h = record { more = []; written = none_added w; spelled = refl; size = omega arith; read = refl; goes_on = h }
 
-pub one_element : (f : ElementSaid) (e : Element) (u v : Writing) → read_element f ≡ Some e → WritesElement f u v → WritesElements (f ∷ []) (e ∷ []) u v
+pub one_element : (f : ElementSaid) (e : Element) (u v : WrittenSoFar) → read_element f ≡ Some e → WritesElement f u v → WritesElements (f ∷ []) (e ∷ []) u v
 one_element f e u v read a = record {
   more = a.more;
   written = a.written;
@@ -60,7 +60,7 @@ one_element f e u v read a = record {
 }
 
 -- an element, and then its children's
-pub node_added : (name : List ℕ) (r : ℕ) (p : Option ℤ) (ns : FileNodes) (f : ElementSaid) (u v w : Writing) → IsElementOf f (file_node name r p ns) → WritesElement f u v → WritesNodes ns v w
+pub node_added : (name : List ℕ) (r : ℕ) (p : Option ℤ) (ns : FileNodes) (f : ElementSaid) (u v w : WrittenSoFar) → IsElementOf f (file_node name r p ns) → WritesElement f u v → WritesNodes ns v w
     → WritesNode (file_node name r p ns) u w
 node_added name r p ns f u v w is first inner =
     let n = file_node name r p ns in
@@ -68,10 +68,10 @@ node_added name r p ns f u v w is first inner =
     (one_element (element_said n) (head_of n) u v is.read (subst (λ g. WritesElement g u v) is.said first)) inner
 
 -- one node alone, and one before others
-pub only_added : (n : FileNode) (u v : Writing) → WritesNode n u v → WritesNodes (one_node n no_nodes) u v
+pub only_added : (n : FileNode) (u v : WrittenSoFar) → WritesNode n u v → WritesNodes (one_node n no_nodes) u v
 only_added n u v a = elements_then (said n) [] (flat n) [] u v v a (no_elements v a.goes_on)
 
-pub more_added : (n : FileNode) (ns : FileNodes) (u v w : Writing) → WritesNode n u v → WritesNodes ns v w → WritesNodes (one_node n ns) u w
+pub more_added : (n : FileNode) (ns : FileNodes) (u v w : WrittenSoFar) → WritesNode n u v → WritesNodes ns v w → WritesNodes (one_node n ns) u w
 more_added n ns u v w first more = elements_then (said n) (said_of ns) (flat n) (flat_of ns) u v w first more
 
 -- ---- by kinds
@@ -96,7 +96,7 @@ once name (field own false s) = refl
 list_said : (f : Field) → fields_said (codes "list") (Some 2) None (Some 1) None ≡ element_said (list_node f)
 list_said f = rw (once (codes "element") f) refl
 
-pub list_added : (k : NodeKind) (b : Box Node Global) (n : Node) (f : ElementSaid) (u v w : Writing) → k ≡ node.List b → n ≡ b.value → f ≡ fields_said (codes "list") (Some 2) None (Some 1) None → WritesElement f u v
+pub list_added : (k : NodeKind) (b : Box Node Global) (n : Node) (f : ElementSaid) (u v w : WrittenSoFar) → k ≡ node.List b → n ≡ b.value → f ≡ fields_said (codes "list") (Some 2) None (Some 1) None → WritesElement f u v
     → WritesNode (written_as (codes "element") (field_of n)) v w → WritesNodes (nodes_at (shape_of k)) u w
 list_added k b n f u v w is same named first inner =
     let e = field_of n in
@@ -104,7 +104,7 @@ list_added k b n f u v w is same named first inner =
     (only_added (written_as (codes "element") e) v w inner)) in
     subst (λ s. WritesNodes (nodes_at s) u w) (ap (λ m. shape.list (field_of m)) same ∙ sym (ap shape_of is ∙ shape_of-List b)) whole
 
-pub map_added : (k : NodeKind) (b : Box Node Global) (n : Node) (f g : ElementSaid) (u v w x : Writing) → k ≡ Map b → n ≡ b.value → f ≡ fields_said (codes "key_value") (Some 2) None (Some 2) None → WritesElement f u v
+pub map_added : (k : NodeKind) (b : Box Node Global) (n : Node) (f g : ElementSaid) (u v w x : WrittenSoFar) → k ≡ Map b → n ≡ b.value → f ≡ fields_said (codes "key_value") (Some 2) None (Some 2) None → WritesElement f u v
     → g ≡ fields_said (codes "key") (Some 0) (Some 6) None (Some 0) → WritesElement g v w → WritesNode (written_as (codes "value") (field_of n)) w x → WritesNodes (nodes_at (shape_of k)) u x
 map_added k b n f g u v w x is same named first key second inner =
     let e = field_of n in
@@ -171,7 +171,7 @@ own_element name n r physical children converted v nullable p c small =
     subst (λ f. IsElementOf (fields_said name (Some r) physical children converted) (written_as name f)) (sym (field_of-is n)) (field_said name (field (string_bytes n.name) n.nullable (shape_of n.kind)) r physical children converted v nullable p c small)
 
 -- a node's element, and those below it
-pub kind_added : (name : List ℕ) (n : Node) (f : ElementSaid) (u v w : Writing) → IsElementOf f (written_as name (field_of n)) → WritesElement f u v → WritesNodes (nodes_at (shape_of n.kind)) v w
+pub kind_added : (name : List ℕ) (n : Node) (f : ElementSaid) (u v w : WrittenSoFar) → IsElementOf f (written_as name (field_of n)) → WritesElement f u v → WritesNodes (nodes_at (shape_of n.kind)) v w
     → WritesNode (written_as name (field_of n)) u w
 kind_added name n f u v w is first inner =
     let same = field_of-is n in
@@ -180,13 +180,13 @@ kind_added name n f u v w is first inner =
 -- ---- nodes beside one another
 
 -- whatever adds the nodes from a place on adds all of them
-abbrev pub GoesOn : List Node → ℕ → Writing → Writing → Type 0
-GoesOn ns i old now = IsOpen now × ((new : Writing) → WritesNodes (written_nodes (fields_of (drop i ns))) now new → WritesNodes (written_nodes (fields_of ns)) old new)
+abbrev pub GoesOn : List Node → ℕ → WrittenSoFar → WrittenSoFar → Type 0
+GoesOn ns i old now = IsOpen now × ((new : WrittenSoFar) → WritesNodes (written_nodes (fields_of (drop i ns))) now new → WritesNodes (written_nodes (fields_of ns)) old new)
 
 written_named : (n : Node) → written_in (field_of n) ≡ written_as (string_bytes n.name) (field_of n)
 written_named n = rw (field_of-is n) refl
 
-pub next_node : (ns : List Node) (i : ℕ) (n : Node) (old now new : Writing) → i < length ns → n ≡ get_or ns i n → GoesOn ns i old now → WritesNode (written_as (string_bytes n.name) (field_of n)) now new
+pub next_node : (ns : List Node) (i : ℕ) (n : Node) (old now new : WrittenSoFar) → i < length ns → n ≡ get_or ns i n → GoesOn ns i old now → WritesNode (written_as (string_bytes n.name) (field_of n)) now new
     → GoesOn ns (i + 1) old new
 next_node ns i n old now new room is before added = (
   added.goes_on,
@@ -197,7 +197,7 @@ next_node ns i n old now new room is before added = (
 drop_past : (ns : List Node) (i : ℕ) → length ns ≤ i → drop i ns ≡ []
 drop_past ns i h = grind (arith, drop_all)
 
-pub all_nodes : (ns : List Node) (i : ℕ) (old now : Writing) → length ns ≤ i → GoesOn ns i old now → WritesNodes (written_nodes (fields_of ns)) old now
+pub all_nodes : (ns : List Node) (i : ℕ) (old now : WrittenSoFar) → length ns ≤ i → GoesOn ns i old now → WritesNodes (written_nodes (fields_of ns)) old now
 all_nodes ns i old now past before = before.1 now (subst (λ left. WritesNodes (written_nodes (fields_of left)) now now) (sym (drop_past ns i past)) (no_elements now before.0))
 
 -- ---- their number

@@ -4,14 +4,14 @@ use Rattle.std.specs.Str.{bytes_eq}
 use Rattle.std.proofs.lemmas.List.{append-nil, map-append}
 use Rattle.std.proofs.lemmas.Slice.Eq.{bytes_eq-Decides, slice_eq-Decides}
 use Rattle.std.proofs.lemmas.Bool.{and_parts, and_from, or_from, or_parts, false≢true}
-use Rattle.dk_pqmodel.specs.Shape.{Shape, leaf, map_of, Field, field, Fields, no_fields, one_field, name_in}
+use Rattle.dk_pqmodel.specs.Shape.{Shape, leaf, map_of, Field, field, Fields, no_fields, one_field, field_name}
 use Rattle.dk_pqmodel.specs.Shape as shape
 use Rattle.dk_pqmodel.specs.Schema.{has_fields, is_named, are_distinct, is_sound_shape, is_sound, are_sound, IsSchema}
 use Rattle.dk_pqmodel.specs.Projection.{Path, paths_of, paths_of_all}
 use Rattle.dk_pqmodel.specs.Footer.{Chunk, is_path, has_path, is_new_each, if_distinct}
 use Rattle.dk_pqmodel.specs.Projection.{Plan, missing, value, members, elements, entries, Plans, no_plans, one_plan}
 use Rattle.dk_pqmodel.specs.FileMeans.{one_if, columns_in, columns_of}
-use Rattle.dk_pqwrite.specs.OverItself.{path_in, path_of, own_plan_at, own_plan_in, own_plan_named, own_plans}
+use Rattle.dk_pqwrite.specs.OverItself.{chunk_path, column_path, own_plan_at, own_plan_in, own_plan_named, own_plans}
 use Rattle.dk_pqwrite.proofs.Names.{Each, each_append, each_map, named_apart, not_true}
 
 -- the path goes on from the prefix
@@ -34,13 +34,13 @@ mutual
   under_in : (f : Field) (path : Path) → Each (Under path) (paths_of (own_plan_in f path))
   under_in (field name b s) path = under_at s b path
 
-  under_named : (f : Field) (path : Path) → Each (Under (path ++ name_in f ∷ [])) (paths_of (own_plan_named f path))
+  under_named : (f : Field) (path : Path) → Each (Under (path ++ field_name f ∷ [])) (paths_of (own_plan_named f path))
   under_named (field name b s) path = under_at s b (path ++ name ∷ [])
 
   under_each : (fs : Fields) (path : Path) → Each (Under path) (paths_of_all (own_plans fs path))
   under_each no_fields path = tt
   under_each (one_field f fs) path =
-      each_append (Under path) (paths_of (own_plan_named f path)) (paths_of_all (own_plans fs path)) (each_map (above path (name_in f ∷ [])) (paths_of (own_plan_named f path)) (under_named f path)) (under_each fs path)
+      each_append (Under path) (paths_of (own_plan_named f path)) (paths_of_all (own_plans fs path)) (each_map (above path (field_name f ∷ [])) (paths_of (own_plan_named f path)) (under_named f path)) (under_each fs path)
 
 -- the path goes on by another name
 abbrev Elsewhere : Path → List ℕ → Path → Type 0
@@ -51,7 +51,7 @@ elsewhere no_fields path name h = tt
 elsewhere (one_field f fs) path name h =
     let apart = named_apart name f fs h in
     each_append (Elsewhere path name) (paths_of (own_plan_named f path)) (paths_of_all (own_plans fs path))
-    (each_map (λ p u. (name_in f, (apart.0, u))) (paths_of (own_plan_named f path)) (under_named f path)) (elsewhere fs path name apart.1)
+    (each_map (λ p u. (field_name f, (apart.0, u))) (paths_of (own_plan_named f path)) (under_named f path)) (elsewhere fs path name apart.1)
 
 abbrev first_or : List ℕ → Path → List ℕ
 first_or name [] = name
@@ -107,10 +107,10 @@ mutual
   distinct_each no_fields path h d = tt
   distinct_each (one_field f fs) path h d =
       let p = and_parts (is_sound f) (are_sound fs) h in
-      let q = and_parts (not (is_named (name_in f) fs)) (are_distinct fs) d in
-      let far = elsewhere fs path (name_in f) (not_true (is_named (name_in f) fs) q.0) in
+      let q = and_parts (not (is_named (field_name f) fs)) (are_distinct fs) d in
+      let far = elsewhere fs path (field_name f) (not_true (is_named (field_name f) fs) q.0) in
       distinct_append (paths_of (own_plan_named f path)) (paths_of_all (own_plans fs path)) (distinct_named f path p.0) (distinct_each fs path p.1 q.1)
-      (each_map (λ p u. each_map (λ r e. apart path (name_in f) p r u e) (paths_of_all (own_plans fs path)) far) (paths_of (own_plan_named f path)) (under_named f path))
+      (each_map (λ p u. each_map (λ r e. apart path (field_name f) p r u e) (paths_of_all (own_plans fs path)) far) (paths_of (own_plan_named f path)) (under_named f path))
 
 pub paths_distinct : (fs : Fields) → IsSchema fs → Distinct (paths_of_all (own_plans fs []))
 paths_distinct fs is = distinct_each fs [] is.sound is.distinct
@@ -133,31 +133,31 @@ both_each : {A : Type 0} {P Q R : A → Type 0} → ((x : A) → P x → Q x →
 both_each f [] h k = tt
 both_each f (x ∷ xs) h k = (f x h.0 k.0, both_each f xs h.1 k.1)
 
-new_each : (before columns : List (Path × Chunk)) → Distinct (map path_in columns) → Each (λ p. has_path p before ≡ false) (map path_in columns) → is_new_each before columns ≡ true
+new_each : (before columns : List (Path × Chunk)) → Distinct (map chunk_path columns) → Each (λ p. has_path p before ≡ false) (map chunk_path columns) → is_new_each before columns ≡ true
 new_each before [] d h = refl
 new_each before (c ∷ cs) d h =
     and_from (not (has_path c.0 before)) (is_new_each (before ++ c ∷ []) cs) (ap not h.0)
-    (new_each (before ++ c ∷ []) cs d.1 (both_each (λ p new other. has_path_behind p c before new (paths_differ p c.0 (λ e. other (sym e)))) (map path_in cs) h.1 d.0))
+    (new_each (before ++ c ∷ []) cs d.1 (both_each (λ p new other. has_path_behind p c before new (paths_differ p c.0 (λ e. other (sym e)))) (map chunk_path cs) h.1 d.0))
 
 none_before : (ps : List Path) → Each (λ p. has_path p [] ≡ false) ps
 none_before [] = tt
 none_before (p ∷ ps) = (refl, none_before ps)
 
-pub columns_distinct : (fs : Fields) (columns : List (Path × Chunk)) → IsSchema fs → map path_in columns ≡ paths_of_all (own_plans fs []) → if_distinct columns ≡ Some columns
-columns_distinct fs columns is e = rw (new_each [] columns (subst Distinct (sym e) (paths_distinct fs is)) (none_before (map path_in columns))) refl
+pub columns_distinct : (fs : Fields) (columns : List (Path × Chunk)) → IsSchema fs → map chunk_path columns ≡ paths_of_all (own_plans fs []) → if_distinct columns ≡ Some columns
+columns_distinct fs columns is e = rw (new_each [] columns (subst Distinct (sym e) (paths_distinct fs is)) (none_before (map chunk_path columns))) refl
 
 -- the columns of plans have their paths
 mutual
-  paths_in_plan : (p : Plan) (r d : ℕ) → map path_of (columns_in p r d) ≡ paths_of p
+  paths_in_plan : (p : Plan) (r d : ℕ) → map column_path (columns_in p r d) ≡ paths_of p
   paths_in_plan missing r d = refl
   paths_in_plan (value b kind path) r d = refl
   paths_in_plan (members b ps) r d = paths_in_plans ps r (d + one_if b)
   paths_in_plan (elements b p) r d = paths_in_plan p (r + 1) (d + one_if b + 1)
   paths_in_plan (entries b k path p) r d = ap (λ ps. path ∷ ps) (paths_in_plan p (r + 1) (d + one_if b + 1))
 
-  pub paths_in_plans : (ps : Plans) (r d : ℕ) → map path_of (columns_of ps r d) ≡ paths_of_all ps
+  pub paths_in_plans : (ps : Plans) (r d : ℕ) → map column_path (columns_of ps r d) ≡ paths_of_all ps
   paths_in_plans no_plans r d = refl
-  paths_in_plans (one_plan p ps) r d = map-append path_of (columns_in p r d) (columns_of ps r d) ∙ ap₂ ◌++◌ (paths_in_plan p r d) (paths_in_plans ps r d)
+  paths_in_plans (one_plan p ps) r d = map-append column_path (columns_in p r d) (columns_of ps r d) ∙ ap₂ ◌++◌ (paths_in_plan p r d) (paths_in_plans ps r d)
 
-pub chunks_distinct : (fs : Fields) (chunks : List (Path × Chunk)) → IsSchema fs → map path_in chunks ≡ map path_of (columns_of (own_plans fs []) 0 0) → if_distinct chunks ≡ Some chunks
+pub chunks_distinct : (fs : Fields) (chunks : List (Path × Chunk)) → IsSchema fs → map chunk_path chunks ≡ map column_path (columns_of (own_plans fs []) 0 0) → if_distinct chunks ≡ Some chunks
 chunks_distinct fs chunks is e = columns_distinct fs chunks is (e ∙ paths_in_plans (own_plans fs []) 0 0)

@@ -2,14 +2,14 @@
 use Rattle.std.proofs.Common.{◌≡◌, ℕ, Bool, true, false, not, ◌&&◌, List, [], ◌∷◌, ◌++◌, codes, Some, None, option_map, refl, ap, ap₂, ◌∙◌}
 use Rattle.std.specs.Str.{bytes_eq}
 use Rattle.std.proofs.lemmas.Bool.{and_parts, or_parts, false≢true}
-use Rattle.dk_pqmodel.specs.Shape.{Leaf, flag, int32, int64, chars, Shape, leaf, map_of, Field, field, Fields, no_fields, one_field, name_in}
+use Rattle.dk_pqmodel.specs.Shape.{Leaf, flag, int32, int64, chars, Shape, leaf, map_of, Field, field, Fields, no_fields, one_field, field_name}
 use Rattle.dk_pqmodel.specs.Shape as shape
 use Rattle.dk_pqmodel.specs.Schema.{has_fields, is_named, are_distinct, is_sound_shape, is_sound, are_sound, IsSchema}
 use Rattle.dk_pqmodel.specs.FileSchema.{FileNode, file_node, FileNodes, no_nodes, one_node, node_name, named_in}
 use Rattle.dk_pqmodel.specs.FilePages.{physical_type}
 use Rattle.dk_pqmodel.specs.FileMeans.{one_if}
 use Rattle.dk_grammar.specs.Structs.{first_of_two}
-use Rattle.dk_pqmodel.specs.Projection.{Path, Plan, Plans, is_missing, all_missing, members, members_of, elements, elements_of, entries, field_at, field_then, file_entry, projection_at, projection_in, projection_named, projection_each, projection, projected_field, projected_fields, misfit_at, misfit_in, misfit_each, misfit_named, first_misfit}
+use Rattle.dk_pqmodel.specs.Projection.{Path, Plan, Plans, is_missing, all_missing, members, members_of, elements, elements_of, entries, unnamed_field, field_then, file_entry, projection_at, projection_in, projection_named, projection_each, projection, projected_field, projected_fields, misfit_at, misfit_in, misfit_each, misfit_named, first_misfit}
 use Rattle.dk_pqmodel.specs.Projection as laying
 use Rattle.dk_pqwrite.specs.Written.{written_as, written_in, written_nodes, nodes_at, physical_at}
 use Rattle.dk_pqwrite.specs.OverItself.{bare_at, bare_in, bare, own_plan_at, own_plan_in, own_plan_named, own_plans}
@@ -20,13 +20,13 @@ use Rattle.dk_pqwrite.proofs.Names.{same_name, names_turned, not_true}
 -- each field stands among the nodes, as it is written
 abbrev Finds : FileNodes → Fields → Type 0
 Finds ns no_fields = Unit {0}
-Finds ns (one_field f fs) = (named_in (name_in f) ns ≡ Some (written_in f)) × Finds ns fs
+Finds ns (one_field f fs) = (named_in (field_name f) ns ≡ Some (written_in f)) × Finds ns fs
 
 finds_more : (n : FileNode) (ns : FileNodes) (fs : Fields) → is_named (node_name n) fs ≡ false → Finds ns fs → Finds (one_node n ns) fs
 finds_more n ns no_fields h t = tt
 finds_more n ns (one_field f fs) h t =
-    let apart = or_parts (bytes_eq (node_name n) (name_in f)) (is_named (node_name n) fs) h in
-    (rw (names_turned (node_name n) (name_in f) apart.0) t.0, finds_more n ns fs apart.1 t.1)
+    let apart = or_parts (bytes_eq (node_name n) (field_name f)) (is_named (node_name n) fs) h in
+    (rw (names_turned (node_name n) (field_name f) apart.0) t.0, finds_more n ns fs apart.1 t.1)
 
 finds_own : (fs : Fields) → are_distinct fs ≡ true → Finds (written_nodes fs) fs
 finds_own no_fields h = tt
@@ -98,7 +98,7 @@ mutual
   each_own no_fields ns path h t = refl
   each_own (one_field f fs) ns path h t = let p = and_parts (is_sound f) (are_sound fs) h in ap₂ laying.one_plan (named_own f ns path p.0 t.0) (each_own fs ns path p.1 t.1)
 
-  named_own : (f : Field) (ns : FileNodes) (path : Path) → is_sound f ≡ true → named_in (name_in f) ns ≡ Some (written_in f) → projection_named f path ns ≡ own_plan_named f path
+  named_own : (f : Field) (ns : FileNodes) (path : Path) → is_sound f ≡ true → named_in (field_name f) ns ≡ Some (written_in f) → projection_named f path ns ≡ own_plan_named f path
   named_own (field name b s) ns path h found = rw found (at_own s name b (path ++ name ∷ []) h)
 
 pub own_projection : (fs : Fields) → IsSchema fs → projection fs (written_nodes fs) ≡ own_plans fs []
@@ -151,7 +151,7 @@ mutual
       let p = and_parts (is_sound f) (are_sound fs) h in
       ap (λ first. first_of_two first (misfit_each fs path ns)) (named_fits f ns path p.0 t.0) ∙ each_fits fs ns path p.1 t.1
 
-  named_fits : (f : Field) (ns : FileNodes) (path : Path) → is_sound f ≡ true → named_in (name_in f) ns ≡ Some (written_in f) → misfit_named f path ns ≡ None
+  named_fits : (f : Field) (ns : FileNodes) (path : Path) → is_sound f ≡ true → named_in (field_name f) ns ≡ Some (written_in f) → misfit_named f path ns ≡ None
   named_fits (field name b s) ns path h found = rw found (at_fits s name b (path ++ name ∷ []) h)
 
 pub fits_own : (fs : Fields) → IsSchema fs → first_misfit fs (written_nodes fs) ≡ None
@@ -162,9 +162,9 @@ fits_own fs is = each_fits fs (written_nodes fs) [] is.sound (finds_own fs is.di
 mutual
   cut_own : (s : Shape) (b : Bool) (path : Path) → projected_field (own_plan_at s b path) ≡ Some (field [] b (bare_at s))
   cut_own (leaf l) b path = refl
-  cut_own (shape.group fs) b path = ap (λ fs. field_at b (shape.group fs)) (cuts_own fs path)
+  cut_own (shape.group fs) b path = ap (λ fs. unnamed_field b (shape.group fs)) (cuts_own fs path)
   cut_own (shape.list f) b path = ap (λ cut. option_map (λ f. field [] b (shape.list f)) cut) (cut_own_in f (path ++ codes "list" ∷ codes "element" ∷ []))
-  cut_own (map_of f) b path = ap (λ cut. field_at b (shape.list (file_entry false cut))) (cut_own_in f (path ++ codes "key_value" ∷ codes "value" ∷ []))
+  cut_own (map_of f) b path = ap (λ cut. unnamed_field b (shape.list (file_entry false cut))) (cut_own_in f (path ++ codes "key_value" ∷ codes "value" ∷ []))
 
   cut_own_in : (f : Field) (path : Path) → projected_field (own_plan_in f path) ≡ Some (bare_in f)
   cut_own_in (field name b s) path = cut_own s b path

@@ -2,13 +2,13 @@
 use Rattle.std.proofs.Common.{◌≡◌, ◌≤◌, ℕ, ◌+◌, ◌*◌, nat_le, Bool, true, false, not, ◌&&◌, List, [], ◌∷◌, ◌++◌, codes, None, refl, ap, arith}
 use Rattle.std.specs.Str.{bytes_eq}
 use Rattle.std.proofs.lemmas.Bool.{and_parts, and_from, or_from, or_parts}
-use Rattle.dk_pqmodel.specs.Shape.{Shape, leaf, map_of, Field, field, Fields, no_fields, one_field, name_in}
+use Rattle.dk_pqmodel.specs.Shape.{Shape, leaf, map_of, Field, field, Fields, no_fields, one_field, field_name}
 use Rattle.dk_pqmodel.specs.Shape as shape
 use Rattle.dk_pqmodel.specs.Schema as schema
 use Rattle.dk_pqmodel.specs.Schema.{has_fields, is_named, are_distinct, is_sound_shape, IsSchema}
 use Rattle.dk_pqmodel.specs.FileSchema.{FileNode, file_node, no_nodes, one_node, node_name}
 use Rattle.dk_pqmodel.specs.FileMeans.{one_if}
-use Rattle.dk_pqmodel.specs.Footer.{Element, has_name, are_new, is_sound, are_sound, levels_in, levels_of, flat_of, count_of, IsTree}
+use Rattle.dk_pqmodel.specs.Footer.{Element, is_among_names, are_new, is_sound, are_sound, levels_in, levels_of, flat_of, count_of, IsTree}
 use Rattle.dk_pqwrite.specs.Written.{written_as, written_in, written_nodes, nodes_at}
 use Rattle.dk_pqwrite.proofs.Names.{names_turned, not_true}
 
@@ -17,28 +17,28 @@ use Rattle.dk_pqwrite.proofs.Names.{names_turned, not_true}
 -- no field has one of the names
 abbrev NoneOf : List (List ℕ) → Fields → Type 0
 NoneOf names no_fields = Unit {0}
-NoneOf names (one_field f fs) = (has_name (name_in f) names ≡ false) × NoneOf names fs
+NoneOf names (one_field f fs) = (is_among_names (field_name f) names ≡ false) × NoneOf names fs
 
-has_name_behind : (name other : List ℕ) (before : List (List ℕ)) → has_name name before ≡ false → bytes_eq name other ≡ false → has_name name (before ++ other ∷ []) ≡ false
+has_name_behind : (name other : List ℕ) (before : List (List ℕ)) → is_among_names name before ≡ false → bytes_eq name other ≡ false → is_among_names name (before ++ other ∷ []) ≡ false
 has_name_behind name other [] h k = or_from (bytes_eq name other) false k refl
 has_name_behind name other (n ∷ ns) h k =
-    let p = or_parts (bytes_eq name n) (has_name name ns) h in or_from (bytes_eq name n) (has_name name (ns ++ other ∷ [])) p.0 (has_name_behind name other ns p.1 k)
+    let p = or_parts (bytes_eq name n) (is_among_names name ns) h in or_from (bytes_eq name n) (is_among_names name (ns ++ other ∷ [])) p.0 (has_name_behind name other ns p.1 k)
 
 none_behind : (name : List ℕ) (before : List (List ℕ)) (fs : Fields) → is_named name fs ≡ false → NoneOf before fs → NoneOf (before ++ name ∷ []) fs
 none_behind name before no_fields h t = tt
 none_behind name before (one_field f fs) h t =
-    let p = or_parts (bytes_eq name (name_in f)) (is_named name fs) h in
-    (has_name_behind (name_in f) name before t.0 (names_turned name (name_in f) p.0), none_behind name before fs p.1 t.1)
+    let p = or_parts (bytes_eq name (field_name f)) (is_named name fs) h in
+    (has_name_behind (field_name f) name before t.0 (names_turned name (field_name f) p.0), none_behind name before fs p.1 t.1)
 
-written_name : (f : Field) → node_name (written_in f) ≡ name_in f
+written_name : (f : Field) → node_name (written_in f) ≡ field_name f
 written_name (field name b s) = refl
 
 new_names : (before : List (List ℕ)) (fs : Fields) → are_distinct fs ≡ true → NoneOf before fs → are_new before (written_nodes fs) ≡ true
 new_names before no_fields h t = refl
 new_names before (one_field f fs) h t =
-    let p = and_parts (not (is_named (name_in f) fs)) (are_distinct fs) h in
-    rw (written_name f) (and_from (not (has_name (name_in f) before)) (are_new (before ++ name_in f ∷ []) (written_nodes fs)) (ap not t.0)
-    (new_names (before ++ name_in f ∷ []) fs p.1 (none_behind (name_in f) before fs (not_true (is_named (name_in f) fs) p.0) t.1)))
+    let p = and_parts (not (is_named (field_name f) fs)) (are_distinct fs) h in
+    rw (written_name f) (and_from (not (is_among_names (field_name f) before)) (are_new (before ++ field_name f ∷ []) (written_nodes fs)) (ap not t.0)
+    (new_names (before ++ field_name f ∷ []) fs p.1 (none_behind (field_name f) before fs (not_true (is_named (field_name f) fs) p.0) t.1)))
 
 none_at_first : (fs : Fields) → NoneOf [] fs
 none_at_first no_fields = tt

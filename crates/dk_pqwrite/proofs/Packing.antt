@@ -9,7 +9,7 @@ use Rattle.dk_grammar.specs.Digits.{number_of}
 use Rattle.dk_grammar.specs.Plain.{bit_of, AreFlags}
 use Rattle.dk_grammar.specs.Runs.{ArePacked}
 use Rattle.dk_grammar.proofs.Digits.{number_of-append}
-use Rattle.dk_pqwrite.specs.Adding.{Adds}
+use Rattle.dk_pqwrite.specs.Adding.{AddsBytes}
 
 -- what is added, and then any bytes of the flags that are left, is all flags
 pub record Goes (flags rest : List Bool) (old new : List ℕ) : Type 0 where
@@ -115,7 +115,7 @@ step flags rest group behind old out new byte h split some few last is e = recor
 pub begun : (flags : List Bool) (old : List ℕ) → Goes flags flags old old
 begun flags old = record { done = []; added = sym (append-nil old); go_on = λ more m. m; size = omega arith }
 
-ended : (flags rest : List Bool) (old new : List ℕ) → rest ≡ [] → Goes flags rest old new → Adds (AreFlags flags) (length flags) old new
+ended : (flags rest : List Bool) (old new : List ℕ) → rest ≡ [] → Goes flags rest old new → AddsBytes (AreFlags flags) (length flags) old new
 ended flags rest old new none h =
     let nothing : AreFlags [] [] = record { padding = []; short = lit< tt; packed = record { fit = All-nil (λ bit. bit < 2 ^ 1); bits = refl; number = refl } } in
     record {
@@ -136,7 +136,7 @@ step_at flags rest group behind n old out new byte h split front back least some
     step flags rest group behind old out new byte h split (omega (arith, front, least)) (omega (arith, front, least))
     (λ less. no_flags behind (omega (arith, less, front, back, least))) is e
 
-pub ended_at : (flags rest : List Bool) (old new : List ℕ) → length rest ≡ 0 → Goes flags rest old new → Adds (AreFlags flags) (length flags) old new
+pub ended_at : (flags rest : List Bool) (old new : List ℕ) → length rest ≡ 0 → Goes flags rest old new → AddsBytes (AreFlags flags) (length flags) old new
 ended_at flags rest old new none h = ended flags rest old new (no_flags rest none) h
 
 pub positive : (n : ℕ) → (n == 0) ≡ false → 0 < n

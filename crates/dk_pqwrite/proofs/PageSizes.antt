@@ -7,16 +7,16 @@ use Rattle.dk_pqmodel.specs.Datum.{Value, chars, Triple, Column}
 use Rattle.dk_pqmodel.specs.Weight.{column_bytes, text_length, value_bytes}
 use Rattle.dk_pqwrite.specs.FirstUses.{first_uses}
 use Rattle.dk_pqwrite.specs.PlainValues.{plain_size}
-use Rattle.dk_pqwrite.specs.WrittenColumn.{values_in}
+use Rattle.dk_pqwrite.specs.WrittenColumn.{values_of_column}
 
-bytes_more : (r d : ℕ) (v : Option Value) (es : Column) → 56 * length es + plain_size (values_in es) ≤ column_bytes es
-    → 56 * suc (length es) + plain_size (values_in (record { repetition = r; definition = d; value = v } ∷ es)) ≤ column_bytes (record { repetition = r; definition = d; value = v } ∷ es)
+bytes_more : (r d : ℕ) (v : Option Value) (es : Column) → 56 * length es + plain_size (values_of_column es) ≤ column_bytes es
+    → 56 * suc (length es) + plain_size (values_of_column (record { repetition = r; definition = d; value = v } ∷ es)) ≤ column_bytes (record { repetition = r; definition = d; value = v } ∷ es)
 bytes_more r d None es h = omega (arith, h, sum_by-cons (λ (e : Triple). value_bytes e.value) (record { repetition = r; definition = d; value = None }) es)
 bytes_more r d (Some v) es h =
-    omega (arith, h, sum_by-cons (λ (e : Triple). value_bytes e.value) (record { repetition = r; definition = d; value = Some v }) es, sum_by-cons (λ x. 8 + text_length x) v (values_in es))
+    omega (arith, h, sum_by-cons (λ (e : Triple). value_bytes e.value) (record { repetition = r; definition = d; value = Some v }) es, sum_by-cons (λ x. 8 + text_length x) v (values_of_column es))
 
 -- values and levels together
-pub bytes_within : (entries : Column) → 56 * length entries + plain_size (values_in entries) ≤ column_bytes entries
+pub bytes_within : (entries : Column) → 56 * length entries + plain_size (values_of_column entries) ≤ column_bytes entries
 bytes_within [] = omega arith
 bytes_within (e ∷ es) = bytes_more e.repetition e.definition e.value es (bytes_within es)
 

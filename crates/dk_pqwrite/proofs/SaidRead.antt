@@ -8,7 +8,7 @@ use Rattle.dk_grammar.specs.Thrift.{head}
 use Rattle.dk_grammar.specs.Grammar.{SpellsList, SpellsWhole}
 use Rattle.dk_grammar.specs.Nested.{Repeats, SpellsAnyElement, SpellsValue}
 use Rattle.dk_grammar.specs.declared.thrift.Kind.TheVariants as kinds
-use Rattle.dk_grammar.specs.Structs.{Listed, under, last_under, first_of_two, when, SpellsFields, SpellsStruct, SpellsNumberField}
+use Rattle.dk_grammar.specs.Structs.{FieldValues, under, last_under, first_of_two, when, SpellsFields, SpellsStruct, SpellsNumberField}
 use Rattle.dk_grammar.specs.Lists.{Either, held, other, is_held, held_in, others_in, SpellsEach, SpellsListHeader, SpellsListOf, SpellsHeldOr}
 use Rattle.dk_pqmodel.specs.Projection.{Path}
 use Rattle.dk_pqmodel.specs.Footer.{MetaFields, meta_fields, ChunkFields, GroupFields, ElementFields, FileFields, held_under, number_under}
@@ -18,17 +18,17 @@ use Rattle.dk_pqwrite.specs.Said.{MetaSaid, MetaPart, SpellsMetaSaid, ChunkSaid,
 -- ---- fields, one by one
 
 module _ {V W : Type 0} (f : V → Option W) where
-  abbrev pub kept : Listed V → Listed W
+  abbrev pub kept : FieldValues V → FieldValues W
   kept [] = []
   kept (x ∷ xs) = under x.0 (f x.1) (kept xs)
 
-  under_kept : (id : ℤ) (value : Option V) (more : Listed V) → kept (under id value more) ≡ under id (option_and_then f value) (kept more)
+  under_kept : (id : ℤ) (value : Option V) (more : FieldValues V) → kept (under id value more) ≡ under id (option_and_then f value) (kept more)
   under_kept id None more = refl
   under_kept id (Some value) more = refl
 
   module _ (spells : ℤ → ℕ → List ℕ → Option V → Type 0) (reads : ℤ → ℕ → List ℕ → Option W → Type 0)
       (turn : (id : ℤ) (kind : ℕ) (bytes : List ℕ) (value : Option V) → spells id kind bytes value → reads id kind bytes (option_and_then f value)) where
-    fields_kept : (n : ℕ) (last : ℤ) (bytes : List ℕ) (fields : Listed V) → SpellsFields spells n last bytes fields → SpellsFields reads n last bytes (kept fields)
+    fields_kept : (n : ℕ) (last : ℤ) (bytes : List ℕ) (fields : FieldValues V) → SpellsFields spells n last bytes fields → SpellsFields reads n last bytes (kept fields)
     fields_kept zero last bytes fields s = (s.0, ap kept s.1)
     fields_kept (suc n) last bytes fields s =
         let id = s.0 in
@@ -61,7 +61,7 @@ module _ {V W : Type 0} (f : V → Option W) where
           ),
         )
 
-    pub struct_kept : (bytes : List ℕ) (fields : Listed V) → SpellsStruct spells bytes fields → SpellsStruct reads bytes (kept fields)
+    pub struct_kept : (bytes : List ℕ) (fields : FieldValues V) → SpellsStruct spells bytes fields → SpellsStruct reads bytes (kept fields)
     struct_kept bytes fields s = (s.0, fields_kept s.0 (pos 0) bytes fields s.1)
 
 -- ---- lists
@@ -78,7 +78,7 @@ list_as {A} {B} f kind spells reads turn bytes xs s =
 
 -- ---- the value under an id
 
-last_map : {A B : Type 0} (f : A → B) (id : ℤ) (xs : Listed A) → last_under id (map (λ (x : ℤ × A). (x.0, f x.1)) xs) ≡ option_map f (last_under id xs)
+last_map : {A B : Type 0} (f : A → B) (id : ℤ) (xs : FieldValues A) → last_under id (map (λ (x : ℤ × A). (x.0, f x.1)) xs) ≡ option_map f (last_under id xs)
 last_map f id [] = refl
 last_map {A} {B} f id (x ∷ xs) =
     ap (λ o. first_of_two o (when (int_eq x.0 id) (f x.1))) (last_map f id xs) ∙ by (last_under id xs) (int_eq x.0 id)
@@ -134,7 +134,7 @@ meta_turned id kind bytes None s = s.1
 meta_turned id kind bytes (Some (held codes)) s = encodings_passed id kind bytes codes s.0 s.1
 meta_turned id kind bytes (Some (other y)) s = s.1
 
-meta_others : (fields : Listed MetaPart) → others_in fields ≡ kept meta_kept fields
+meta_others : (fields : FieldValues MetaPart) → others_in fields ≡ kept meta_kept fields
 meta_others [] = refl
 meta_others ((id, held x) ∷ fields) = meta_others fields
 meta_others ((id, other y) ∷ fields) = ap (λ more. (id, y) ∷ more) (meta_others fields)
@@ -160,20 +160,20 @@ module _ {A B : Type 0} (f : A → B) where
   value_turned held_id held_kind spells reads turn id kind bytes (Some (held x)) s = (s.0, turn bytes x s.1)
   value_turned held_id held_kind spells reads turn id kind bytes (Some (other y)) s = s
 
-  held_kept : (fields : Listed (Either A ℤ)) → held_in (kept value_kept fields) ≡ map (λ (x : ℤ × A). (x.0, f x.1)) (held_in fields)
+  held_kept : (fields : FieldValues (Either A ℤ)) → held_in (kept value_kept fields) ≡ map (λ (x : ℤ × A). (x.0, f x.1)) (held_in fields)
   held_kept [] = refl
   held_kept ((id, held x) ∷ fields) = ap (λ more. (id, f x) ∷ more) (held_kept fields)
   held_kept ((id, other y) ∷ fields) = held_kept fields
 
-  others_kept : (fields : Listed (Either A ℤ)) → others_in (kept value_kept fields) ≡ others_in fields
+  others_kept : (fields : FieldValues (Either A ℤ)) → others_in (kept value_kept fields) ≡ others_in fields
   others_kept [] = refl
   others_kept ((id, held x) ∷ fields) = others_kept fields
   others_kept ((id, other y) ∷ fields) = ap (λ more. (id, y) ∷ more) (others_kept fields)
 
-  held_there : (id : ℤ) (fields : Listed (Either A ℤ)) → held_under id (kept value_kept fields) ≡ option_map f (held_under id fields)
+  held_there : (id : ℤ) (fields : FieldValues (Either A ℤ)) → held_under id (kept value_kept fields) ≡ option_map f (held_under id fields)
   held_there id fields = ap (last_under id) (held_kept fields) ∙ last_map f id (held_in fields)
 
-  number_there : (id : ℤ) (fields : Listed (Either A ℤ)) → number_under id (kept value_kept fields) ≡ number_under id fields
+  number_there : (id : ℤ) (fields : FieldValues (Either A ℤ)) → number_under id (kept value_kept fields) ≡ number_under id fields
   number_there id fields = ap (last_under id) (others_kept fields)
 
 -- ---- ColumnChunk
@@ -237,13 +237,13 @@ file_turned id kind bytes (Some (held es)) s = (s.0, list_as element_read 12 Spe
 file_turned id kind bytes (Some (other (held gs))) s = (s.0, (s.1.0, list_as group_read 12 SpellsGroupSaid SpellsGroup group_found bytes gs s.1.1))
 file_turned id kind bytes (Some (other (other z))) s = s
 
-elements_kept : (fields : Listed FilePart) → held_in (kept file_kept fields) ≡ map (λ (x : ℤ × Elements). (x.0, map element_read x.1)) (held_in fields)
+elements_kept : (fields : FieldValues FilePart) → held_in (kept file_kept fields) ≡ map (λ (x : ℤ × Elements). (x.0, map element_read x.1)) (held_in fields)
 elements_kept [] = refl
 elements_kept ((id, held es) ∷ fields) = ap (λ more. (id, map element_read es) ∷ more) (elements_kept fields)
 elements_kept ((id, other (held gs)) ∷ fields) = elements_kept fields
 elements_kept ((id, other (other z)) ∷ fields) = elements_kept fields
 
-inner_kept : (fields : Listed FilePart) → others_in (kept file_kept fields) ≡ kept (value_kept (map group_read)) (others_in fields)
+inner_kept : (fields : FieldValues FilePart) → others_in (kept file_kept fields) ≡ kept (value_kept (map group_read)) (others_in fields)
 inner_kept [] = refl
 inner_kept ((id, held es) ∷ fields) = inner_kept fields
 inner_kept ((id, other (held gs)) ∷ fields) = ap (λ more. (id, held (map group_read gs)) ∷ more) (inner_kept fields)

@@ -11,9 +11,9 @@ use Rattle.dk_pqwrite.specs.declared.chunk.Chunk.{Chunk}
 use Rattle.dk_pqwrite.specs.declared.group.RowGroup.{RowGroup}
 use Rattle.dk_pqwrite.specs.Chunks.{encodings_of, path_of_chunk, chunk_said, meta_said}
 use Rattle.dk_pqwrite.specs.Footers.{EndsFile, file_said, footer_of}
-use Rattle.dk_pqwrite.specs.OverItself.{own_plans, path_of}
+use Rattle.dk_pqwrite.specs.OverItself.{own_plans, column_path}
 use Rattle.dk_pqwrite.specs.Said.{ChunkSaid, SpellsFileSaid}
-use Rattle.dk_pqwrite.specs.WrittenColumns.{AreSized, WritesColumns}
+use Rattle.dk_pqwrite.specs.WrittenColumns.{ChunksAreSized, WritesColumns}
 use Rattle.dk_pqwrite.specs.WrittenFile.{SayPages, with_metadata, whole_said, SaysItsBytes}
 
 with_all : (ks : List Chunk) → map chunk_said ks ≡ map with_metadata (map meta_said ks)
@@ -27,10 +27,10 @@ said_so (Some n) = refl
 first_is : {A : Type 0} (x y : A) (xs ys : List A) → x ∷ xs ≡ y ∷ ys → (x ≡ y) × (xs ≡ ys)
 first_is x y xs ys h = (cc, cc)
 
-says_all : (cs : List ColumnAt) (ks : List Chunk) (ps : List (List ℕ)) → map path_of_chunk ks ≡ map path_of cs → AreSized ks ps → SayPages cs ps (map meta_said ks)
+says_all : (cs : List ColumnAt) (ks : List Chunk) (ps : List (List ℕ)) → map path_of_chunk ks ≡ map column_path cs → ChunksAreSized ks ps → SayPages cs ps (map meta_said ks)
 says_all [] [] [] paths sized = tt
 says_all (c ∷ cs) (k ∷ ks) (p ∷ ps) paths sized =
-    let both = first_is (path_of_chunk k) (path_of c) (map path_of_chunk ks) (map path_of cs) paths in (
+    let both = first_is (path_of_chunk k) (column_path c) (map path_of_chunk ks) (map column_path cs) paths in (
       record {
         path = ap Some both.0;
         uncompressed = ap (λ n. Some (pos n)) sized.0;
@@ -41,7 +41,7 @@ says_all (c ∷ cs) (k ∷ ks) (p ∷ ps) paths sized =
     )
 says_all [] [] (p ∷ ps) paths sized = absurd sized
 says_all [] (k ∷ ks) ps paths sized = (let never : path_of_chunk k ∷ map path_of_chunk ks ≡ [] = paths in cc)
-says_all (c ∷ cs) [] ps paths sized = (let never : [] ≡ path_of c ∷ map path_of cs = paths in cc)
+says_all (c ∷ cs) [] ps paths sized = (let never : [] ≡ column_path c ∷ map column_path cs = paths in cc)
 says_all (c ∷ cs) (k ∷ ks) [] paths sized = absurd sized
 
 pub says_bytes : (fs : Fields) (cut : List Column) (group : RowGroup) (before bytes : List ℕ) → WritesColumns (columns_of (own_plans fs []) 0 0) cut group.chunks.items magic before

@@ -11,7 +11,7 @@ use Rattle.dk_pqmodel.specs.Projection.{Path, paths_of, paths_of_all}
 use Rattle.dk_pqmodel.specs.Weight.{node_bytes_at, node_bytes_in, node_bytes_of}
 use Rattle.dk_pqwrite.specs.Elements.{element_said, said, said_of}
 use Rattle.dk_pqwrite.specs.FooterSizes.{name_size, element_size, chunk_size}
-use Rattle.dk_pqwrite.specs.OverItself.{own_plan_at, own_plan_in, own_plan_named, own_plans, path_of}
+use Rattle.dk_pqwrite.specs.OverItself.{own_plan_at, own_plan_in, own_plan_named, own_plans, column_path}
 use Rattle.dk_pqwrite.specs.Written.{physical_at, written_as, nodes_at, written_in, written_nodes}
 use Rattle.dk_pqwrite.proofs.OwnPaths.{paths_in_plans}
 
@@ -108,9 +108,9 @@ mutual
       omega (arith, nodes_are (written_in f) (written_nodes fs), columns_both (paths_of (own_plan_named f path)) (paths_of_all (own_plans fs path)), first, rest)
 
 pub schema_size : (fs : Fields) → IsSchema fs
-    → sum_by element_size (said_of (written_nodes fs)) + sum_by chunk_size (map path_of (columns_of (own_plans fs []) 0 0)) + 220 * length (columns_of (own_plans fs []) 0 0) ≤ node_bytes_of 0 fs
+    → sum_by element_size (said_of (written_nodes fs)) + sum_by chunk_size (map column_path (columns_of (own_plans fs []) 0 0)) + 220 * length (columns_of (own_plans fs []) 0 0) ≤ node_bytes_of 0 fs
 schema_size fs is =
     let columns = columns_of (own_plans fs []) 0 0 in
     let size = each_size fs [] 0 0 (omega arith) (omega (arith, is.levels)) in
     let named = subst (λ paths. nodes_size (written_nodes fs) + columns_size paths ≤ node_bytes_of 0 fs) (sym (paths_in_plans (own_plans fs []) 0 0)) size in
-    omega (arith, named, length-map columns path_of)
+    omega (arith, named, length-map columns column_path)

@@ -12,7 +12,7 @@ use Rattle.dk_pqmodel.specs.Fits.{fits_leaf}
 use Rattle.dk_pqmodel.specs.Triples.{columns_joined, empty_columns}
 use Rattle.dk_pqmodel.specs.Weight.{text_length}
 use Rattle.dk_pqwrite.specs.PlainValues.{column_weight, entry_weight}
-use Rattle.dk_pqwrite.specs.Writable.{IsWritable}
+use Rattle.dk_pqwrite.specs.Writable.{IsWritableColumn}
 use Rattle.dk_pqwrite.proofs.BareColumns.{Beyond, bare_column, without_path}
 use Rattle.dk_pqwrite.proofs.Names.{Each}
 
@@ -112,7 +112,7 @@ few_entries : (triples : Column) → 16 * length triples ≤ column_weight tripl
 few_entries [] = omega arith
 few_entries (e ∷ es) = omega (arith, few_entries es, some_weight e.value, sum_by-cons (λ (x : Triple). entry_weight x.value) e es)
 
-pub suits_writable : (most : ℕ) (column : ColumnAt) (triples : Column) → most ≤ 2 ^ 30 → Suits most (without_path column) triples → IsWritable column triples
+pub suits_writable : (most : ℕ) (column : ColumnAt) (triples : Column) → most ≤ 2 ^ 30 → Suits most (without_path column) triples → IsWritableColumn column triples
 suits_writable most column triples le h = record {
   full = (
     All-weaker (IsEntryOf (without_path column)) (IsFull column.def) (λ e is. is.0) triples h.each,

@@ -8,10 +8,10 @@ use Rattle.std.proofs.lemmas.List.{length-append, map-append}
 use Rattle.std.proofs.lemmas.List.Elements.{filter-append, filter_map-append}
 use Rattle.std.proofs.lemmas.Option.{slice_get-map}
 use Rattle.std.proofs.lemmas.Slice.Eq.{bytes_eq-Decides}
-use Rattle.dk_levels.specs.Borrowed.{triple_of}
+use Rattle.dk_levels.specs.Borrowed.{borrowed_triple}
 use Rattle.dk_pqmodel.specs.Datum.{Triple}
 use Rattle.dk_levels.specs.declared.borrowed.BorrowedTriple.{BorrowedTriple}
-use Rattle.dk_pqwrite.specs.FirstUses.{AreTheirs, first_uses, text_of, texts_in}
+use Rattle.dk_pqwrite.specs.FirstUses.{AreTheirs, first_uses, text_value, texts_in}
 use Rattle.dk_pqwrite.proofs.AddingPlain.{entries_more, single}
 
 abbrev pub Text : Type 0
@@ -159,10 +159,10 @@ kept_more keys new places texts most place key h e stored =
     }
 
 module _ (triples : List BorrowedTriple) (i : ℕ) (t : BorrowedTriple) (within : i < length triples) (there : t ≡ get_or triples i t) where
-  pub texts_more : (b : Option Text) → b ≡ option_and_then text_of (triple_of t).value → texts_in (map triple_of (take (i + 1) triples)) ≡ texts_in (map triple_of (take i triples)) ++ option_to_list b
+  pub texts_more : (b : Option Text) → b ≡ option_and_then text_value (borrowed_triple t).value → texts_in (map borrowed_triple (take (i + 1) triples)) ≡ texts_in (map borrowed_triple (take i triples)) ++ option_to_list b
   texts_more b e =
-      let both = filter_map-append (λ (x : Triple). option_and_then text_of x.value) (map triple_of (take i triples)) (triple_of t ∷ []) in
-      rw (entries_more triples i t within there, e) (both ∙ ap (λ xs. texts_in (map triple_of (take i triples)) ++ xs) (single (option_and_then text_of (triple_of t).value)))
+      let both = filter_map-append (λ (x : Triple). option_and_then text_value x.value) (map borrowed_triple (take i triples)) (borrowed_triple t ∷ []) in
+      rw (entries_more triples i t within there, e) (both ∙ ap (λ xs. texts_in (map borrowed_triple (take i triples)) ++ xs) (single (option_and_then text_value (borrowed_triple t).value)))
 
 pub kept_later : (keys : List Key) (places : List ℕ) (texts : List Text) (most : ℕ) → Kept keys places texts most → Kept keys places texts (most + 1)
 kept_later keys places texts most h = record { uses = h.uses; theirs = h.theirs; few = omega (arith, h.few) }

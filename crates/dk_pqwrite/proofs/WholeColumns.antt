@@ -5,7 +5,7 @@ use Rattle.std.specs.declared.alloc.Global.{Global}
 use Rattle.std.proofs.lemmas.List.{append-nil, length-append, map-append, take_more, take_all}
 use Rattle.std.proofs.lemmas.List.Elements.{All-nil, All-push}
 use Rattle.std.proofs.lemmas.List.Sums.{sum_by-append, sum_by-cons}
-use Rattle.dk_levels.specs.Borrowed.{triple_of, column_of, columns_of}
+use Rattle.dk_levels.specs.Borrowed.{borrowed_triple, borrowed_column, borrowed_columns}
 use Rattle.dk_pqmodel.specs.Datum.{Column}
 use Rattle.dk_pqmodel.specs.FileMeans.{HasTriples}
 use Rattle.dk_pqmodel.specs.FilePages.{ColumnAt}
@@ -13,19 +13,19 @@ use Rattle.dk_pqmodel.specs.Weight.{column_bytes}
 use Rattle.dk_levels.specs.declared.borrowed.BorrowedTriple.{BorrowedTriple}
 use Rattle.dk_pqwrite.specs.declared.chunk.Chunk.{Chunk}
 use Rattle.dk_pqwrite.specs.declared.leaves.SchemaLeaf.{SchemaLeaf}
-use Rattle.dk_pqwrite.specs.Chunks.{IsFit, chunk_view, path_of_chunk}
-use Rattle.dk_pqwrite.specs.OverItself.{path_of}
+use Rattle.dk_pqwrite.specs.Chunks.{IsFit, chunk_with_path, path_of_chunk}
+use Rattle.dk_pqwrite.specs.OverItself.{column_path}
 use Rattle.dk_pqwrite.specs.SchemaLeaves.{leaf_view}
 use Rattle.dk_pqwrite.specs.Shredded.{AreWritable}
-use Rattle.dk_pqwrite.specs.Writable.{IsWritable}
+use Rattle.dk_pqwrite.specs.Writable.{IsWritableColumn}
 use Rattle.dk_pqwrite.specs.WrittenChunk.{WritesColumn}
-use Rattle.dk_pqwrite.specs.WrittenColumn.{column_at}
-use Rattle.dk_pqwrite.specs.WrittenColumns.{AreHeld, AreSized, WritesColumns}
+use Rattle.dk_pqwrite.specs.WrittenColumn.{leaf_column_at}
+use Rattle.dk_pqwrite.specs.WrittenColumns.{AreHeld, ChunksAreSized, WritesColumns}
 use Rattle.dk_pqwrite.proofs.Structs.{drop_next, drop_past}
 
 -- ---- one column more
 
-held_more : (before : List ℕ) (cs : List ColumnAt) (ts : List Column) (ks : List Chunk) (c : ColumnAt) (t : Column) (k : Chunk) → AreHeld before cs ts ks → HasTriples before c (chunk_view k).1 t
+held_more : (before : List ℕ) (cs : List ColumnAt) (ts : List Column) (ks : List Chunk) (c : ColumnAt) (t : Column) (k : Chunk) → AreHeld before cs ts ks → HasTriples before c (chunk_with_path k).1 t
     → AreHeld before (cs ++ c ∷ []) (ts ++ t ∷ []) (ks ++ k ∷ [])
 held_more before [] [] [] c t k h g = (g, tt)
 held_more before (c' ∷ cs) (t' ∷ ts) (k' ∷ ks) c t k h g = (h.0, held_more before cs ts ks c t k h.1 g)
@@ -43,7 +43,7 @@ flat_last : (ps : List (List ℕ)) (p : List ℕ) → flat_map (λ x. x) (ps ++ 
 flat_last [] p = append-nil p
 flat_last (q ∷ ps) p = ap (λ bytes. q ++ bytes) (flat_last ps p) ∙ sym (append_assoc q (flat_map (λ x. x) ps) p)
 
-sized_more : (ks : List Chunk) (ps : List (List ℕ)) (k : Chunk) (p : List ℕ) → AreSized ks ps → k.size ≡ length p → AreSized (ks ++ k ∷ []) (ps ++ p ∷ [])
+sized_more : (ks : List Chunk) (ps : List (List ℕ)) (k : Chunk) (p : List ℕ) → ChunksAreSized ks ps → k.size ≡ length p → ChunksAreSized (ks ++ k ∷ []) (ps ++ p ∷ [])
 sized_more [] [] k p h g = (g, tt)
 sized_more [] (q ∷ ps) k p h g = absurd h
 sized_more (j ∷ ks) [] k p h g = absurd h
@@ -57,7 +57,7 @@ one_more cs ts ks c t k old middle new h g = record {
   held = λ behind.
       let same : middle ++ (g.part ++ behind) ≡ new ++ behind = sym (ap (λ bytes. bytes ++ behind) g.added ∙ append_assoc middle g.part behind) in
       held_more (new ++ behind) cs ts ks c t k (subst (λ before. AreHeld before cs ts ks) same (h.held (g.part ++ behind))) (g.held behind);
-  paths = map-append path_of_chunk ks (k ∷ []) ∙ ap₂ (λ xs x. xs ++ x ∷ []) h.paths g.path ∙ sym (map-append path_of cs (c ∷ []));
+  paths = map-append path_of_chunk ks (k ∷ []) ∙ ap₂ (λ xs x. xs ++ x ∷ []) h.paths g.path ∙ sym (map-append column_path cs (c ∷ []));
   fit = All-push IsFit ks k h.fit g.fit;
   parts = h.parts ++ g.part ∷ [];
   joined = ap (λ bytes. bytes ++ g.part) h.joined ∙ sym (flat_last h.parts g.part);
@@ -71,8 +71,8 @@ one_more cs ts ks c t k old middle new h g = record {
 pub record GoesOn (columns : List (Vec BorrowedTriple Global)) (place : ℕ) (all rest : List ColumnAt) (chunks : List Chunk) (old now : List ℕ) : Type 0 where
   pub done : List ColumnAt
   pub whole : all ≡ done ++ rest
-  pub written : WritesColumns done (columns_of (take place columns)) chunks old now
-  pub left : AreWritable rest (columns_of (drop place columns))
+  pub written : WritesColumns done (borrowed_columns (take place columns)) chunks old now
+  pub left : AreWritable rest (borrowed_columns (drop place columns))
 
 none_written : (bytes : List ℕ) → WritesColumns [] [] [] bytes bytes
 none_written bytes = record {
@@ -87,35 +87,35 @@ none_written bytes = record {
   size = omega arith;
 }
 
-pub begun : (columns : List (Vec BorrowedTriple Global)) (all : List ColumnAt) (bytes : List ℕ) → AreWritable all (columns_of columns) → GoesOn columns 0 all all [] bytes bytes
+pub begun : (columns : List (Vec BorrowedTriple Global)) (all : List ColumnAt) (bytes : List ℕ) → AreWritable all (borrowed_columns columns) → GoesOn columns 0 all all [] bytes bytes
 begun columns all bytes h = record { done = []; whole = refl; written = none_written bytes; left = h }
 
 module _ (columns : List (Vec BorrowedTriple Global)) (place : ℕ) (column : Vec BorrowedTriple Global) (room : place < length columns) (is : column ≡ get_or columns place column) where
   -- the columns that are left
-  left_are : (rest : List ColumnAt) → AreWritable rest (columns_of (drop place columns)) → AreWritable rest (column_of column ∷ columns_of (drop (place + 1) columns))
-  left_are rest h = subst (λ ts. AreWritable rest (columns_of ts)) (drop_next columns place column room is) h
+  left_are : (rest : List ColumnAt) → AreWritable rest (borrowed_columns (drop place columns)) → AreWritable rest (borrowed_column column ∷ borrowed_columns (drop (place + 1) columns))
+  left_are rest h = subst (λ ts. AreWritable rest (borrowed_columns ts)) (drop_next columns place column room is) h
 
   pub some_left : (all rest : List ColumnAt) (chunks : List Chunk) (old now : List ℕ) → GoesOn columns place all rest chunks old now → rest ≡ [] → ⊥
-  some_left all rest chunks old now h e = subst (λ cs. AreWritable cs (column_of column ∷ columns_of (drop (place + 1) columns))) e (left_are rest h.left)
+  some_left all rest chunks old now h e = subst (λ cs. AreWritable cs (borrowed_column column ∷ borrowed_columns (drop (place + 1) columns))) e (left_are rest h.left)
 
   next_left : (c : ColumnAt) (all rest more : List ColumnAt) (chunks : List Chunk) (old now : List ℕ) → GoesOn columns place all rest chunks old now → rest ≡ c ∷ more
-      → AreWritable (c ∷ more) (column_of column ∷ columns_of (drop (place + 1) columns))
-  next_left c all rest more chunks old now h e = subst (λ cs. AreWritable cs (column_of column ∷ columns_of (drop (place + 1) columns))) e (left_are rest h.left)
+      → AreWritable (c ∷ more) (borrowed_column column ∷ borrowed_columns (drop (place + 1) columns))
+  next_left c all rest more chunks old now h e = subst (λ cs. AreWritable cs (borrowed_column column ∷ borrowed_columns (drop (place + 1) columns))) e (left_are rest h.left)
 
-  pub writable : (c : ColumnAt) (all rest more : List ColumnAt) (chunks : List Chunk) (old now : List ℕ) → GoesOn columns place all rest chunks old now → rest ≡ c ∷ more → IsWritable c (column_of column)
+  pub writable : (c : ColumnAt) (all rest more : List ColumnAt) (chunks : List Chunk) (old now : List ℕ) → GoesOn columns place all rest chunks old now → rest ≡ c ∷ more → IsWritableColumn c (borrowed_column column)
   writable c all rest more chunks old now h e = (next_left c all rest more chunks old now h e).0
 
-  taken : columns_of (take (place + 1) columns) ≡ columns_of (take place columns) ++ column_of column ∷ []
+  taken : borrowed_columns (take (place + 1) columns) ≡ borrowed_columns (take place columns) ++ borrowed_column column ∷ []
   taken =
-      ap columns_of (take_more columns place column room ∙ ap (λ x. take place columns ++ x ∷ []) (sym is)) ∙ map-append column_of (take place columns) (column ∷ [])
+      ap borrowed_columns (take_more columns place column room ∙ ap (λ x. take place columns ++ x ∷ []) (sym is)) ∙ map-append borrowed_column (take place columns) (column ∷ [])
 
   pub next_column : (c : ColumnAt) (k : Chunk) (all rest more : List ColumnAt) (chunks others : List Chunk) (old now new : List ℕ) → GoesOn columns place all rest chunks old now → rest ≡ c ∷ more
-      → WritesColumn c (column_of column) k now new → others ≡ chunks ++ k ∷ [] → GoesOn columns (place + 1) all more others old new
+      → WritesColumn c (borrowed_column column) k now new → others ≡ chunks ++ k ∷ [] → GoesOn columns (place + 1) all more others old new
   next_column c k all rest more chunks others old now new h e one pushed = record {
     done = h.done ++ c ∷ [];
     whole = h.whole ∙ ap (λ cs. h.done ++ cs) e ∙ sym (append_assoc h.done (c ∷ []) more);
-    written = subst (λ ks. WritesColumns (h.done ++ c ∷ []) (columns_of (take (place + 1) columns)) ks old new) (sym pushed)
-        (subst (λ ts. WritesColumns (h.done ++ c ∷ []) ts (chunks ++ k ∷ []) old new) (sym taken) (one_more h.done (columns_of (take place columns)) chunks c (column_of column) k old now new h.written one));
+    written = subst (λ ks. WritesColumns (h.done ++ c ∷ []) (borrowed_columns (take (place + 1) columns)) ks old new) (sym pushed)
+        (subst (λ ts. WritesColumns (h.done ++ c ∷ []) ts (chunks ++ k ∷ []) old new) (sym taken) (one_more h.done (borrowed_columns (take place columns)) chunks c (borrowed_column column) k old now new h.written one));
     left = (next_left c all rest more chunks old now h e).1;
   }
 
@@ -124,11 +124,11 @@ none_left [] h = refl
 none_left (c ∷ cs) h = absurd h
 
 pub all_written : (columns : List (Vec BorrowedTriple Global)) (place : ℕ) (all rest : List ColumnAt) (chunks : List Chunk) (old now : List ℕ) → length columns ≤ place → GoesOn columns place all rest chunks old now
-    → WritesColumns all (columns_of columns) chunks old now
+    → WritesColumns all (borrowed_columns columns) chunks old now
 all_written columns place all rest chunks old now past h =
-    let none : rest ≡ [] = none_left rest (subst (λ ts. AreWritable rest (columns_of ts)) (drop_past columns place past) h.left) in
+    let none : rest ≡ [] = none_left rest (subst (λ ts. AreWritable rest (borrowed_columns ts)) (drop_past columns place past) h.left) in
     let whole : h.done ≡ all = sym (h.whole ∙ ap (λ cs. h.done ++ cs) none ∙ append-nil h.done) in
-    subst (λ cs. WritesColumns cs (columns_of columns) chunks old now) whole (subst (λ ts. WritesColumns h.done (columns_of ts) chunks old now) (take_all place columns past) h.written)
+    subst (λ cs. WritesColumns cs (borrowed_columns columns) chunks old now) whole (subst (λ ts. WritesColumns h.done (borrowed_columns ts) chunks old now) (take_all place columns past) h.written)
 
 -- bytes that were begun go on
 pub still_begun : (columns : List (Vec BorrowedTriple Global)) (place : ℕ) (all rest : List ColumnAt) (chunks : List Chunk) (old now : List ℕ) → 0 < length old → GoesOn columns place all rest chunks old now → 0 < length now
@@ -136,13 +136,13 @@ still_begun columns place all rest chunks old now h g = omega (arith, h, ap leng
 
 -- ---- a leaf taken apart
 
-pub at_any_path : (leaf : SchemaLeaf) (items triples : List BorrowedTriple) → triples ≡ items → IsWritable (leaf_view leaf) (map triple_of items) → IsWritable (column_at [] leaf.column) (map triple_of triples)
+pub at_any_path : (leaf : SchemaLeaf) (items triples : List BorrowedTriple) → triples ≡ items → IsWritableColumn (leaf_view leaf) (map borrowed_triple items) → IsWritableColumn (leaf_column_at [] leaf.column) (map borrowed_triple triples)
 at_any_path leaf items triples read h =
-    subst (λ ts. IsWritable (column_at [] leaf.column) (map triple_of ts)) (sym read) (record { full = h.full; fit = h.fit; few = h.few; light = h.light })
+    subst (λ ts. IsWritableColumn (leaf_column_at [] leaf.column) (map borrowed_triple ts)) (sym read) (record { full = h.full; fit = h.fit; few = h.few; light = h.light })
 
-pub of_leaf : (leaf : SchemaLeaf) (items triples : List BorrowedTriple) (chunk : Chunk) (old new : List ℕ) → triples ≡ items → WritesColumn (leaf_view leaf) (map triple_of triples) chunk old new
-    → WritesColumn (leaf_view leaf) (map triple_of items) chunk old new
-of_leaf leaf items triples chunk old new read h = subst (λ ts. WritesColumn (leaf_view leaf) (map triple_of ts) chunk old new) read h
+pub of_leaf : (leaf : SchemaLeaf) (items triples : List BorrowedTriple) (chunk : Chunk) (old new : List ℕ) → triples ≡ items → WritesColumn (leaf_view leaf) (map borrowed_triple triples) chunk old new
+    → WritesColumn (leaf_view leaf) (map borrowed_triple items) chunk old new
+of_leaf leaf items triples chunk old new read h = subst (λ ts. WritesColumn (leaf_view leaf) (map borrowed_triple ts) chunk old new) read h
 
 pub none_to_come : {X : Type 0} (items : List X) (len : ℕ) → length items ≡ len → len ≡ 0 → items ≡ []
 none_to_come [] len same none = refl

@@ -17,9 +17,9 @@ use Rattle.dk_pqmodel.specs.Weight.{most_bytes}
 use Rattle.dk_pqwrite.specs.Said.{FileSaid}
 use Rattle.dk_pqwrite.specs.declared.chunk.Chunk.{Chunk}
 use Rattle.dk_pqwrite.specs.declared.group.RowGroup.{RowGroup}
-use Rattle.dk_pqwrite.specs.Chunks.{chunk_view, path_of_chunk}
+use Rattle.dk_pqwrite.specs.Chunks.{chunk_with_path, path_of_chunk}
 use Rattle.dk_pqwrite.specs.Footers.{EndsFile, footer_of, footer_size}
-use Rattle.dk_pqwrite.specs.OverItself.{own_plans, path_of}
+use Rattle.dk_pqwrite.specs.OverItself.{own_plans, column_path}
 use Rattle.dk_pqwrite.specs.Written.{written_nodes}
 use Rattle.dk_pqwrite.specs.WrittenColumns.{AreHeld, WritesColumns}
 use Rattle.dk_pqwrite.proofs.BareRows.{own_triples, own_widened}
@@ -39,16 +39,16 @@ others_same x y xs ys e = ap (drop 1) e
 abbrev Among : List (Path × plain.Chunk) → List (Path × plain.Chunk) → Type 0
 Among all xs = All (Contains all) xs
 
-held_columns : (before : List ℕ) (rows : ℕ) (all : List (Path × plain.Chunk)) (cs : List ColumnAt) (ts : List Column) (ks : List Chunk) → AreHeld before cs ts ks → map path_of_chunk ks ≡ map path_of cs
-    → Among all (map chunk_view ks) → HasColumns before (record { rows = rows; columns = all }) cs ts
+held_columns : (before : List ℕ) (rows : ℕ) (all : List (Path × plain.Chunk)) (cs : List ColumnAt) (ts : List Column) (ks : List Chunk) → AreHeld before cs ts ks → map path_of_chunk ks ≡ map column_path cs
+    → Among all (map chunk_with_path ks) → HasColumns before (record { rows = rows; columns = all }) cs ts
 held_columns before rows all [] [] [] h paths among = tt
 held_columns before rows all (c ∷ cs) (t ∷ ts) (k ∷ ks) h paths among = (
   (
-    (chunk_view k).1,
-    subst (λ path. Contains all (path, (chunk_view k).1)) (first_same (path_of_chunk k) (path_of c) (map path_of_chunk ks) (map path_of cs) paths) (All-head (Contains all) (chunk_view k) (map chunk_view ks) among),
+    (chunk_with_path k).1,
+    subst (λ path. Contains all (path, (chunk_with_path k).1)) (first_same (path_of_chunk k) (column_path c) (map path_of_chunk ks) (map column_path cs) paths) (All-head (Contains all) (chunk_with_path k) (map chunk_with_path ks) among),
     h.0,
   ),
-  held_columns before rows all cs ts ks h.1 (others_same (path_of_chunk k) (path_of c) (map path_of_chunk ks) (map path_of cs) paths) (All-tail (Contains all) (chunk_view k) (map chunk_view ks) among),
+  held_columns before rows all cs ts ks h.1 (others_same (path_of_chunk k) (column_path c) (map path_of_chunk ks) (map column_path cs) paths) (All-tail (Contains all) (chunk_with_path k) (map chunk_with_path ks) among),
 )
 held_columns before rows all (c ∷ cs) [] ks h paths among = absurd h
 held_columns before rows all (c ∷ cs) (t ∷ ts) [] h paths among = absurd h
@@ -66,19 +66,19 @@ module _ (fs : Fields) (rows : Cells) (group : RowGroup) (before bytes : List �
   chunks = group.chunks.items
 
   abbrev own_group : plain.RowGroup
-  own_group = record { rows = group.rows; columns = map chunk_view chunks }
+  own_group = record { rows = group.rows; columns = map chunk_with_path chunks }
 
-  share : AreHeld before (columns_of (own_plans fs []) 0 0) (triples fs rows) chunks → map path_of_chunk chunks ≡ map path_of (columns_of (own_plans fs []) 0 0)
+  share : AreHeld before (columns_of (own_plans fs []) 0 0) (triples fs rows) chunks → map path_of_chunk chunks ≡ map column_path (columns_of (own_plans fs []) 0 0)
       → HasRows before (projection fs (written_nodes fs)) own_group rows
   share held paths = record {
     columns = triples fs rows;
     held = subst (λ plans. HasColumns before own_group (columns_of plans 0 0) (triples fs rows)) (sym (own_projection fs is))
-        (held_columns before group.rows (map chunk_view chunks) (columns_of (own_plans fs []) 0 0) (triples fs rows) chunks held paths (All-contains_itself (map chunk_view chunks)));
+        (held_columns before group.rows (map chunk_with_path chunks) (columns_of (own_plans fs []) 0 0) (triples fs rows) chunks held paths (All-contains_itself (map chunk_with_path chunks)));
     triples = own_triples fs rows is form;
     count = counted;
   }
 
-  means_rows : AreHeld before (columns_of (own_plans fs []) 0 0) (triples fs rows) chunks → map path_of_chunk chunks ≡ map path_of (columns_of (own_plans fs []) 0 0) → EndsFile (footer_of fs group) said before bytes
+  means_rows : AreHeld before (columns_of (own_plans fs []) 0 0) (triples fs rows) chunks → map path_of_chunk chunks ≡ map column_path (columns_of (own_plans fs []) 0 0) → EndsFile (footer_of fs group) said before bytes
       → FileMeans fs bytes rows
   means_rows held paths ends = record {
     before = before;

@@ -7,29 +7,29 @@ use Rattle.std.proofs.lemmas.List.Elements.{recursion_from_All}
 use Rattle.std.proofs.lemmas.List.Sums.{sum_by-cons}
 use Rattle.dk_grammar.specs.Plain.{little}
 use Rattle.dk_grammar.specs.Spelling.{list_bytes}
-use Rattle.dk_grammar.specs.Structs.{Listed, SpellsStruct, SpellsNumberField}
+use Rattle.dk_grammar.specs.Structs.{FieldValues, SpellsStruct, SpellsNumberField}
 use Rattle.dk_grammar.specs.Lists.{Either, held, other, SpellsListOf, SpellsHeldOr}
 use Rattle.dk_grammar.proofs.Digits.{length-digits_of}
 use Rattle.dk_grammar.proofs.WrittenSpellings.{whole_written, binary_written}
-use Rattle.dk_thrift.specs.Writing.{Writing, with_bytes, with_field, with_struct, with_end}
+use Rattle.dk_thrift.specs.Writing.{WrittenSoFar, with_bytes, with_field_header, with_struct, with_end}
 use Rattle.dk_pqmodel.specs.Shape.{Fields}
 use Rattle.dk_pqmodel.specs.Schema.{IsSchema}
 use Rattle.dk_pqmodel.specs.FileMeans.{columns_of}
 use Rattle.dk_pqmodel.specs.NodeView.{fields_of}
 use Rattle.dk_pqmodel.specs.Footer as plain
-use Rattle.dk_pqmodel.specs.Footer.{count_of, flat_of, each_of, element_of, chunk_of, group_of, place_of, ◌>=◌}
+use Rattle.dk_pqmodel.specs.Footer.{count_of, flat_of, each_of, schema_element, chunk_of, group_of, file_place, ◌>=◌}
 use Rattle.dk_pqmodel.specs.FooterBytes.{SpellsFooter, magic}
 use Rattle.dk_pqwrite.specs.Said.{ElementSaid, SpellsElementSaid, GroupSaid, SpellsGroupSaid, FileSaid, SpellsFileSaid}
 use Rattle.dk_pqwrite.proofs.SaidRead.{element_read, chunk_read, group_read, file_read, file_found}
 use Rattle.dk_pqmodel.specs.declared.node.Node.{Node}
 use Rattle.dk_pqwrite.specs.declared.chunk.Chunk.{Chunk}
 use Rattle.dk_pqwrite.specs.declared.group.RowGroup.{RowGroup}
-use Rattle.dk_pqwrite.specs.Chunks.{IsFit, path_of_chunk, chunk_view, chunk_said, group_said}
+use Rattle.dk_pqwrite.specs.Chunks.{IsFit, path_of_chunk, chunk_with_path, chunk_said, group_said}
 use Rattle.dk_pqwrite.specs.Elements.{fields_said, read_element, said_of, WritesElement, WritesNodes}
 use Rattle.dk_pqwrite.specs.FooterSizes.{name_size, element_size, chunk_size}
-use Rattle.dk_pqwrite.specs.Footers.{SpellsFields, file_said, root_of, root_said, elements_size, footer_size, PutsSchema, AreColumnsOf, footer_of, EndsFile}
+use Rattle.dk_pqwrite.specs.Footers.{SpellsFileFields, file_said, root_of, root_said, elements_size, footer_size, PutsSchema, AreColumnsOf, footer_of, EndsFile}
 use Rattle.dk_pqwrite.specs.Items.{number_item, text_item, items_bytes, struct_bytes, Puts, PutsHeld}
-use Rattle.dk_pqwrite.specs.OverItself.{own_plans, path_in, path_of}
+use Rattle.dk_pqwrite.specs.OverItself.{own_plans, chunk_path, column_path}
 use Rattle.dk_pqwrite.specs.Written.{written_nodes}
 use Rattle.dk_pqwrite.proofs.FooterStructs.{fits, item, With}
 use Rattle.dk_pqwrite.proofs.NodeElements.{count_is, one_element, elements_then}
@@ -52,7 +52,7 @@ root_read fs h = rw (lt-ltb (count_of (written_nodes fs)) (2 ^ 31) h) refl
 one_more : (n : ℕ) (xs : List ElementSaid) (x : ElementSaid) → n ≡ length xs + 1 → n ≡ length (x ∷ xs)
 one_more n xs x e = omega (arith, e)
 
-pub schema_added : (fs : Fields) (f : ElementSaid) (count : ℕ) (old header counted v new : Writing) → header ≡ with_field (pos 2) 9 old → counted ≡ with_bytes (list_bytes count 12) header
+pub schema_added : (fs : Fields) (f : ElementSaid) (count : ℕ) (old header counted v new : WrittenSoFar) → header ≡ with_field_header (pos 2) 9 old → counted ≡ with_bytes (list_bytes count 12) header
     → count ≡ length (said_of (written_nodes fs)) + 1 → count < 2 ^ 32 → f ≡ root_said fs → count_of (written_nodes fs) < 2 ^ 31 → WritesElement f counted v → WritesNodes (written_nodes fs) v new
     → PutsSchema fs old new
 schema_added fs f count old header counted v new e g same small named few first nodes =
@@ -70,29 +70,29 @@ schema_added fs f count old header counted v new e g same small named few first 
 small_type : (n : ℕ) → n < 2 ^ 31 → nat_le n 2147483647 ≡ true
 small_type n h = le-leb n 2147483647 (omega arith)
 
-place_again : (place : Option ℕ) → IfSome place (λ n. (0 < n) × (n < 2 ^ 63)) → (option_map pos place >= place_of) ≡ place
+place_again : (place : Option ℕ) → IfSome place (λ n. (0 < n) × (n < 2 ^ 63)) → (option_map pos place >= file_place) ≡ place
 place_again None h = refl
 place_again (Some n) h = rw (above n h.0) refl
   where
     above : (n : ℕ) → 0 < n → (n == 0) ≡ false
     above n h = ne_eqb n 0 (λ same. (omega (arith, same, h)))
 
-chunk_again : (c : Chunk) → IsFit c → chunk_of (chunk_read (chunk_said c)) ≡ Some (chunk_view c)
+chunk_again : (c : Chunk) → IsFit c → chunk_of (chunk_read (chunk_said c)) ≡ Some (chunk_with_path c)
 chunk_again c fit = rw (small_type c.physical fit.physical, place_again c.dictionary_page fit.dictionary) refl
 
-chunks_again : (cs : List Chunk) → AllByRecursion IsFit cs → each_of chunk_of (map chunk_read (map chunk_said cs)) ≡ Some (map chunk_view cs)
+chunks_again : (cs : List Chunk) → AllByRecursion IsFit cs → each_of chunk_of (map chunk_read (map chunk_said cs)) ≡ Some (map chunk_with_path cs)
 chunks_again [] h = refl
 chunks_again (c ∷ cs) h = rw (chunk_again c h.0, chunks_again cs h.1) refl
 
-paths_are : (cs : List Chunk) → map path_in (map chunk_view cs) ≡ map path_of_chunk cs
+paths_are : (cs : List Chunk) → map chunk_path (map chunk_with_path cs) ≡ map path_of_chunk cs
 paths_are [] = refl
 paths_are (c ∷ cs) = ap (λ ps. path_of_chunk c ∷ ps) (paths_are cs)
 
 group_again : (fs : Fields) (group : RowGroup) → IsSchema fs → All IsFit group.chunks.items → AreColumnsOf fs group.chunks.items
-    → group_of (group_read (group_said group)) ≡ Some (record { rows = group.rows; columns = map chunk_view group.chunks.items })
+    → group_of (group_read (group_said group)) ≡ Some (record { rows = group.rows; columns = map chunk_with_path group.chunks.items })
 group_again fs group is fit columns =
     let chunks = group.chunks.items in
-    rw (chunks_again chunks (recursion_from_All IsFit chunks fit), chunks_distinct fs (map chunk_view chunks) is (paths_are chunks ∙ columns)) refl
+    rw (chunks_again chunks (recursion_from_All IsFit chunks fit), chunks_distinct fs (map chunk_with_path chunks) is (paths_are chunks ∙ columns)) refl
 
 -- ---- the whole
 
@@ -102,7 +102,7 @@ Groups = Either (List GroupSaid) ℤ
 abbrev file_spells : ℤ → ℕ → List ℕ → Option (Either (List ElementSaid) Groups) → Type 0
 file_spells = SpellsHeldOr (pos 2) 9 (SpellsListOf 12 SpellsElementSaid) (SpellsHeldOr (pos 4) 9 (SpellsListOf 12 SpellsGroupSaid) SpellsNumberField)
 
-abbrev empty : Writing
+abbrev empty : WrittenSoFar
 empty = record { bytes = []; structs = [] }
 
 file_short : (rows : ℕ) (schema groups author : List ℕ) (few short : ℕ) → rows < 2 ^ 63 → length author < 2 ^ 64 → length schema ≤ few → length groups ≤ short
@@ -128,7 +128,7 @@ pub record IsFile (elements : List ElementSaid) (rows : ℕ) (groups : List Grou
   pub spelled : SpellsFileSaid bytes (record { schema = Some elements; rows = Some (pos rows); groups = Some groups })
   pub size : length bytes ≤ most
 
-module _ (elements : List ElementSaid) (rows : ℕ) (groups : List GroupSaid) (author : List ℕ) (few short most : ℕ) (begun a b d e f new : Writing) where
+module _ (elements : List ElementSaid) (rows : ℕ) (groups : List GroupSaid) (author : List ℕ) (few short most : ℕ) (begun a b d e f new : WrittenSoFar) where
   pub file_added : 21 + few + short + name_size author ≤ most → rows < 2 ^ 63 → length author < 2 ^ 64 → begun ≡ with_struct empty → Puts (number_item 1 5 1 ∷ []) begun a
       → PutsHeld 2 9 (SpellsListOf 12 SpellsElementSaid) elements few a b → Puts (number_item 3 6 rows ∷ []) b d → PutsHeld 4 9 (SpellsListOf 12 SpellsGroupSaid) groups short d e
       → Puts (text_item 6 author ∷ []) e f → new ≡ with_end f → IsFile elements rows groups most new.bytes
@@ -142,7 +142,7 @@ module _ (elements : List ElementSaid) (rows : ℕ) (groups : List GroupSaid) (a
       let w2 : With i2 a f = items_then (item 2 9 second.bytes ∷ []) i3 a b f second.written w3 in
       let w1 : With all begun f = items_then (number_item 1 5 1 ∷ []) i2 begun a f first.0 w2 in
       let written : new.bytes ≡ struct_bytes all = ap (λ w. w.bytes) (struct_ended all empty begun f new started w1 ended) in
-      let parts : Listed (Either (List ElementSaid) Groups) = (pos 1, other (other (pos 1))) ∷ (pos 2, held elements) ∷ (pos 3, other (other (pos rows))) ∷ (pos 4, other (held groups)) ∷ [] in record {
+      let parts : FieldValues (Either (List ElementSaid) Groups) = (pos 1, other (other (pos 1))) ∷ (pos 2, held elements) ∷ (pos 3, other (other (pos rows))) ∷ (pos 4, other (held groups)) ∷ [] in record {
         spelled = (
           parts,
           subst (λ bytes. SpellsStruct file_spells bytes parts) (sym written) (struct_spelled file_spells all parts (
@@ -200,11 +200,11 @@ module _ (elements : List ElementSaid) (rows : ℕ) (groups : List GroupSaid) (a
             (at_most (struct_bytes all) (21 + few + short + name_size author) most (file_short rows second.bytes fourth.bytes author few short small known second.size fourth.size) room);
       }
 
-elements_again : (es : List ElementSaid) → each_of element_of (map element_read es) ≡ each_of read_element es
+elements_again : (es : List ElementSaid) → each_of schema_element (map element_read es) ≡ each_of read_element es
 elements_again [] = refl
 elements_again (e ∷ es) = rw (elements_again es) refl
 
-pub footer_spelled : (fs : Fields) (group : RowGroup) (bytes : List ℕ) → IsSchema fs → All IsFit group.chunks.items → AreColumnsOf fs group.chunks.items → SpellsFields fs group bytes → SpellsFooter bytes (footer_of fs group)
+pub footer_spelled : (fs : Fields) (group : RowGroup) (bytes : List ℕ) → IsSchema fs → All IsFit group.chunks.items → AreColumnsOf fs group.chunks.items → SpellsFileFields fs group bytes → SpellsFooter bytes (footer_of fs group)
 footer_spelled fs group bytes is fit columns file = (
   file_read (file_said fs group),
   file_found bytes (file_said fs group) file.spelled,
@@ -237,7 +237,7 @@ file_size before part bytes most e h =
 
 -- where the chunks are those of the schema's columns, the schema alone says how many bytes that are
 pub footer_size_is : (fs : Fields) (cs : List Chunk) → AreColumnsOf fs cs
-    → footer_size fs cs ≡ 31 + sum_by element_size (said_of (written_nodes fs)) + sum_by chunk_size (map path_of (columns_of (own_plans fs []) 0 0))
+    → footer_size fs cs ≡ 31 + sum_by element_size (said_of (written_nodes fs)) + sum_by chunk_size (map column_path (columns_of (own_plans fs []) 0 0))
 footer_size_is fs cs columns =
     let root : element_size (root_said fs) ≡ 31 = refl in
     omega (arith, root, sum_by-cons element_size (root_said fs) (said_of (written_nodes fs)), ap (sum_by chunk_size) columns)

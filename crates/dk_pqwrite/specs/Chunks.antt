@@ -11,8 +11,8 @@ abbrev pub path_of_chunk : Chunk → Path
 path_of_chunk c = map string_bytes c.path.items
 
 -- a chunk with its path, as a footer has it
-abbrev pub chunk_view : Chunk → Path × plain.Chunk
-chunk_view c =
+abbrev pub chunk_with_path : Chunk → Path × plain.Chunk
+chunk_with_path c =
     (path_of_chunk c, record { physical = pos c.physical; codec = pos 0; values = c.values; first_page = c.first_page; dictionary_page = c.dictionary_page })
 
 -- its numbers are those of the format, and no dictionary page stands at 0

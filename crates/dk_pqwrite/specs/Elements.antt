@@ -1,14 +1,14 @@
 -- The elements that spell the schema that is written.
 use Rattle.std.specs.Prelude.{◌≡◌, ◌≤◌, ◌==◌, if◌then◌else◌, ℕ, ℤ, pos, List, [], ◌∷◌, ◌++◌, length, sum_by, Option, Some, None, option_map}
 use Rattle.dk_grammar.specs.Lists.{SpellsEach}
-use Rattle.dk_thrift.specs.Writing.{Writing, IsOpen, with_bytes}
+use Rattle.dk_thrift.specs.Writing.{WrittenSoFar, IsOpen, with_bytes}
 use Rattle.std.specs.Ordering.{int_eq}
 use Rattle.dk_pqmodel.specs.FileSchema.{FileNode, file_node, FileNodes, no_nodes, one_node, children_of, is_repeated}
-use Rattle.dk_pqmodel.specs.Footer.{Element, count_of, each_of, element_of, flat, flat_of}
+use Rattle.dk_pqmodel.specs.Footer.{Element, count_of, each_of, schema_element, flat, flat_of}
 use Rattle.dk_pqwrite.specs.declared.element.Element as written
 use Rattle.dk_pqwrite.specs.Said.{ElementSaid, SpellsElementSaid}
 use Rattle.dk_pqwrite.specs.FooterSizes.{element_size}
-use Rattle.dk_pqwrite.specs.Items.{Item, text_item, optional_items, Writes}
+use Rattle.dk_pqwrite.specs.Items.{Item, text_item, optional_items, WritesValue}
 
 -- the fields of an element, those that are there
 abbrev pub element_items : List ℕ → Option ℕ → Option ℕ → Option ℕ → Option ℕ → List Item
@@ -28,7 +28,7 @@ fields_of_element e = fields_said e.name.now e.repetition e.physical e.children 
 
 -- the element that is read of it
 abbrev pub read_element : ElementSaid → Option Element
-read_element said = element_of said.read
+read_element said = schema_element said.read
 
 -- What other readers take a node for, beyond its physical type: a text is UTF8, 0. A group of one repeated group is a LIST, 3, where that
 -- has one field, and else a MAP, 1.
@@ -72,11 +72,11 @@ pub record IsElementOf (fields : ElementSaid) (node : FileNode) : Type 0 where
   pub read : read_element (element_said node) ≡ Some (head_of node)
 
 -- The bytes of one element are added.
-abbrev pub WritesElement : ElementSaid → Writing → Writing → Type 0
-WritesElement fields old new = Writes SpellsElementSaid fields (element_size fields) old new
+abbrev pub WritesElement : ElementSaid → WrittenSoFar → WrittenSoFar → Type 0
+WritesElement fields old new = WritesValue SpellsElementSaid fields (element_size fields) old new
 
 -- Elements are added that are read as these, and the current struct goes on.
-pub record WritesElements (fields : List ElementSaid) (elements : List Element) (old new : Writing) : Type 0 where
+pub record WritesElements (fields : List ElementSaid) (elements : List Element) (old new : WrittenSoFar) : Type 0 where
   pub more : List ℕ
   pub written : new ≡ with_bytes more old
   pub spelled : SpellsEach SpellsElementSaid more fields
@@ -84,8 +84,8 @@ pub record WritesElements (fields : List ElementSaid) (elements : List Element) 
   pub read : each_of read_element fields ≡ Some elements
   pub goes_on : IsOpen new
 
-abbrev pub WritesNode : FileNode → Writing → Writing → Type 0
+abbrev pub WritesNode : FileNode → WrittenSoFar → WrittenSoFar → Type 0
 WritesNode node old new = WritesElements (said node) (flat node) old new
 
-abbrev pub WritesNodes : FileNodes → Writing → Writing → Type 0
+abbrev pub WritesNodes : FileNodes → WrittenSoFar → WrittenSoFar → Type 0
 WritesNodes nodes old new = WritesElements (said_of nodes) (flat_of nodes) old new

@@ -5,13 +5,13 @@ use Rattle.dk_pqmodel.specs.Datum as cell
 use Rattle.dk_pqmodel.specs.Datum.{Value, Column}
 
 -- the text, if it is one
-abbrev pub text_of : Value → Option (List ℕ)
-text_of (cell.flag b) = None
-text_of (cell.int n) = None
-text_of (cell.chars t) = Some t
+abbrev pub text_value : Value → Option (List ℕ)
+text_value (cell.flag b) = None
+text_value (cell.int n) = None
+text_value (cell.chars t) = Some t
 
 abbrev pub texts_in : Column → List (List ℕ)
-texts_in triples = filter_map (λ e. option_and_then text_of e.value) triples
+texts_in triples = filter_map (λ e. option_and_then text_value e.value) triples
 
 -- the texts in the order of their first use, each once
 abbrev pub first_uses : List (List ℕ) → List (List ℕ)

@@ -42,8 +42,8 @@ abbrev mutual
   own_plans (one_field f fs) path = one_plan (own_plan_named f path) (own_plans fs path)
 
 -- the path of a chunk, and of a column
-abbrev pub path_in : Path × Chunk → Path
-path_in chunk = chunk.0
+abbrev pub chunk_path : Path × Chunk → Path
+chunk_path chunk = chunk.0
 
-abbrev pub path_of : ColumnAt → Path
-path_of column = column.path
+abbrev pub column_path : ColumnAt → Path
+column_path column = column.path

@@ -29,10 +29,10 @@ abbrev pub column_weight : Column → ℕ
 column_weight triples = sum_by (λ e. entry_weight e.value) triples
 
 -- the flag, if it is one
-abbrev pub flag_of : Value → Option Bool
-flag_of (cell.flag b) = Some b
-flag_of (cell.int n) = None
-flag_of (cell.chars t) = None
+abbrev pub flag_value : Value → Option Bool
+flag_value (cell.flag b) = Some b
+flag_value (cell.int n) = None
+flag_value (cell.chars t) = None
 
 abbrev pub flags_in : Column → List Bool
-flags_in triples = filter_map (λ e. option_and_then flag_of e.value) triples
+flags_in triples = filter_map (λ e. option_and_then flag_value e.value) triples

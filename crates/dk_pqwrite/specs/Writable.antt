@@ -6,7 +6,7 @@ use Rattle.dk_pqwrite.specs.PlainValues.{FitsEntry, column_weight}
 
 -- their levels are the column's, values stand where the greatest level is reached and fit, and they are no more and no heavier than rows
 -- of the greatest weight have
-pub record IsWritable (column : ColumnAt) (triples : Column) : Type 0 where
+pub record IsWritableColumn (column : ColumnAt) (triples : Column) : Type 0 where
   pub full : AreFull column triples
   pub fit : All (FitsEntry column.kind) triples
   pub few : length triples ≤ 2 ^ 26

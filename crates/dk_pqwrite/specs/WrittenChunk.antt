@@ -7,7 +7,7 @@ use Rattle.dk_pqmodel.specs.Weight.{column_bytes}
 use Rattle.dk_pqwrite.specs.declared.chunk.Chunk.{Chunk}
 use Rattle.dk_pqwrite.specs.declared.column.LeafKind.{LeafKind}
 use Rattle.dk_pqwrite.specs.declared.column.LeafKind.TheVariants.{Flag, Int32, Int64, Chars}
-use Rattle.dk_pqwrite.specs.Chunks.{IsFit, chunk_view, path_of_chunk}
+use Rattle.dk_pqwrite.specs.Chunks.{IsFit, chunk_with_path, path_of_chunk}
 
 -- texts have a dictionary where one is asked for
 abbrev pub has_dictionary : LeafKind → Bool → Bool
@@ -29,7 +29,7 @@ pub record EndsWithPage (column : ColumnAt) (triples : Column) (place : ℕ) (by
 pub record WritesColumn (column : ColumnAt) (triples : Column) (chunk : Chunk) (old new : List ℕ) : Type 0 where
   pub part : List ℕ
   pub added : new ≡ old ++ part
-  pub held : (behind : List ℕ) → HasTriples (new ++ behind) column (chunk_view chunk).1 triples
+  pub held : (behind : List ℕ) → HasTriples (new ++ behind) column (chunk_with_path chunk).1 triples
   pub ends : EndsWithPage column triples chunk.first_page new
   pub bytes : chunk.size ≡ length part
   pub path : path_of_chunk chunk ≡ column.path

@@ -8,15 +8,15 @@ use Rattle.dk_pqwrite.specs.declared.column.LeafKind.{LeafKind}
 use Rattle.dk_pqwrite.specs.declared.column.LeafKind.TheVariants.{Flag, Int32, Int64, Chars}
 use Rattle.dk_pqwrite.specs.declared.column.LeafColumn.{LeafColumn}
 
-abbrev pub leaf_of : LeafKind → shape.Leaf
-leaf_of Flag = shape.flag
-leaf_of Int32 = shape.int32
-leaf_of Int64 = shape.int64
-leaf_of Chars = shape.chars
+abbrev pub leaf_of_kind : LeafKind → shape.Leaf
+leaf_of_kind Flag = shape.flag
+leaf_of_kind Int32 = shape.int32
+leaf_of_kind Int64 = shape.int64
+leaf_of_kind Chars = shape.chars
 
 -- the column where this is its path
-abbrev pub column_at : Path → LeafColumn → ColumnAt
-column_at path c = record { path = path; kind = leaf_of c.kind; rep = c.rep; def = c.def }
+abbrev pub leaf_column_at : Path → LeafColumn → ColumnAt
+leaf_column_at path c = record { path = path; kind = leaf_of_kind c.kind; rep = c.rep; def = c.def }
 
-abbrev pub values_in : Column → List Value
-values_in triples = filter_map (λ e. e.value) triples
+abbrev pub values_of_column : Column → List Value
+values_of_column triples = filter_map (λ e. e.value) triples

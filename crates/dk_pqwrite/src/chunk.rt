@@ -6,7 +6,7 @@ ghost use Rattle.dk_grammar.specs.Lists.{SpellsEach, SpellsListOf};
 ghost use Rattle.dk_pqmodel.specs.FooterBytes.{SpellsName, SpellsPath};
 ghost use Rattle.dk_pqwrite.specs.Chunks.{IsFit, chunk_said, encodings_of, meta_said, path_of_chunk};
 ghost use Rattle.dk_pqwrite.specs.FooterSizes.{chunk_size, name_size};
-ghost use Rattle.dk_pqwrite.specs.Items.{PutsHeld, Writes};
+ghost use Rattle.dk_pqwrite.specs.Items.{PutsHeld, WritesValue};
 ghost use Rattle.dk_pqwrite.specs.Said.{SpellsChunkSaid, SpellsMetaSaid};
 ghost use Rattle.dk_thrift.specs.Writing.{IsOpen};
 
@@ -44,7 +44,7 @@ pub(crate) struct Chunk {
 pub(crate) fn write_chunk(writer: &mut Writer, chunk: &Chunk) -> Result<(), AllocError>
     requires in_struct { IsOpen writer.old }
     requires fit { IsFit chunk.now }
-    ensures { OnOk result (Writes SpellsChunkSaid (chunk_said chunk.now) (chunk_size (path_of_chunk chunk.now)) writer.old writer.new) }
+    ensures { OnOk result (WritesValue SpellsChunkSaid (chunk_said chunk.now) (chunk_size (path_of_chunk chunk.now)) writer.old writer.new) }
 {
     writer.enter()?;
     put_number(writer, 2, I64, 0)?;
@@ -68,7 +68,7 @@ fn put_metadata(writer: &mut Writer, chunk: &Chunk) -> Result<(), AllocError>
 fn write_metadata(writer: &mut Writer, chunk: &Chunk) -> Result<(), AllocError>
     requires in_struct { IsOpen writer.old }
     requires fit { IsFit chunk.now }
-    ensures { OnOk result (Writes SpellsMetaSaid (meta_said chunk.now) (88 + sum_by name_size (path_of_chunk chunk.now)) writer.old writer.new) }
+    ensures { OnOk result (WritesValue SpellsMetaSaid (meta_said chunk.now) (88 + sum_by name_size (path_of_chunk chunk.now)) writer.old writer.new) }
 {
     writer.enter()?;
     put_number(writer, 1, I32, u64::from(chunk.physical))?;
@@ -106,7 +106,7 @@ fn put_encodings(writer: &mut Writer, encodings: &[u8]) -> Result<(), AllocError
 /// Whole numbers, one behind another.
 fn write_wholes(writer: &mut Writer, numbers: &[u8]) -> Result<(), AllocError>
     requires { IsOpen writer.old }
-    ensures { OnOk result (Writes (SpellsEach SpellsWhole) (map pos numbers.now) (2 * length numbers.now) writer.old writer.new) }
+    ensures { OnOk result (WritesValue (SpellsEach SpellsWhole) (map pos numbers.now) (2 * length numbers.now) writer.old writer.new) }
 {
     for number in numbers {
         write_whole(writer, *number)?;
@@ -117,7 +117,7 @@ fn write_wholes(writer: &mut Writer, numbers: &[u8]) -> Result<(), AllocError>
 /// A whole number.
 fn write_whole(writer: &mut Writer, number: u8) -> Result<(), AllocError>
     requires { IsOpen writer.old }
-    ensures { OnOk result (Writes SpellsWhole (pos number) 2 writer.old writer.new) }
+    ensures { OnOk result (WritesValue SpellsWhole (pos number) 2 writer.old writer.new) }
 {
     writer.whole(i64::from(number))?;
     Ok(())
@@ -138,7 +138,7 @@ fn put_path(writer: &mut Writer, path: &[String]) -> Result<(), AllocError>
 /// Names, one behind another.
 fn write_names(writer: &mut Writer, names: &[String]) -> Result<(), AllocError>
     requires { IsOpen writer.old }
-    ensures { OnOk result (Writes (SpellsEach SpellsName) (map string_bytes names.now) (sum_by name_size (map string_bytes names.now)) writer.old writer.new) }
+    ensures { OnOk result (WritesValue (SpellsEach SpellsName) (map string_bytes names.now) (sum_by name_size (map string_bytes names.now)) writer.old writer.new) }
 {
     for name in names {
         write_name(writer, name)?;
@@ -149,7 +149,7 @@ fn write_names(writer: &mut Writer, names: &[String]) -> Result<(), AllocError>
 /// A name.
 fn write_name(writer: &mut Writer, name: &str) -> Result<(), AllocError>
     requires { IsOpen writer.old }
-    ensures { OnOk result (Writes SpellsName name.now (name_size name.now) writer.old writer.new) }
+    ensures { OnOk result (WritesValue SpellsName name.now (name_size name.now) writer.old writer.new) }
 {
     writer.binary(name.as_bytes())?;
     Ok(())

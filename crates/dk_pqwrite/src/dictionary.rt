@@ -1,8 +1,8 @@
 //! Dictionaries of texts.
 
 ghost use Rattle.std.specs.Prelude.{◌≡◌, ◌<◌, ◌^◌, IfOk, length, map, option_and_then, option_map};
-ghost use Rattle.dk_levels.specs.Borrowed.{triple_of};
-ghost use Rattle.dk_pqwrite.specs.FirstUses.{AreTheirs, first_uses, text_of, texts_in};
+ghost use Rattle.dk_levels.specs.Borrowed.{borrowed_triple};
+ghost use Rattle.dk_pqwrite.specs.FirstUses.{AreTheirs, first_uses, text_value, texts_in};
 
 use dk_levels::{BorrowedTriple, BorrowedValue};
 use indexmap::IndexSet;
@@ -21,8 +21,8 @@ pub(crate) fn dictionary_of<'a>(
     triples: &[BorrowedTriple<'a>],
 ) -> Result<Dictionary<'a>, AllocError>
     requires { length triples.now < 2 ^ 32 }
-    ensures texts { IfOk result (λ d. map (λ k. k.now) d.texts.keys ≡ first_uses (texts_in (map triple_of triples.now))) }
-    ensures places { IfOk result (λ d. AreTheirs (map (λ k. k.now) d.texts.keys) d.places.items (texts_in (map triple_of triples.now))) }
+    ensures texts { IfOk result (λ d. map (λ k. k.now) d.texts.keys ≡ first_uses (texts_in (map borrowed_triple triples.now))) }
+    ensures places { IfOk result (λ d. AreTheirs (map (λ k. k.now) d.texts.keys) d.places.items (texts_in (map borrowed_triple triples.now))) }
 {
     let mut texts = IndexSet::new(alloc);
     let mut places = Vec::new(alloc);
@@ -37,7 +37,7 @@ pub(crate) fn dictionary_of<'a>(
 
 /// The text that an entry has, if it has one.
 fn text_of<'a>(triple: &BorrowedTriple<'a>) -> Option<&'a str>
-    ensures { option_map (λ text. text.now) result ≡ option_and_then text_of (triple_of triple.now).value }
+    ensures { option_map (λ text. text.now) result ≡ option_and_then text_value (borrowed_triple triple.now).value }
 {
     match &triple.value {
         BorrowedValue::Chars(text) => Some(*text),

@@ -2,7 +2,7 @@
 
 ghost use Rattle.std.specs.Prelude.{◌<◌, ◌^◌, [], ◌∷◌, IfSome, IsTrue, OnOk};
 ghost use Rattle.dk_grammar.specs.Thrift.{is_kind};
-ghost use Rattle.dk_pqwrite.specs.Items.{IsSmall, Puts, number_item, optional_items, text_item};
+ghost use Rattle.dk_pqwrite.specs.Items.{IsWithin32Bits, Puts, number_item, optional_items, text_item};
 ghost use Rattle.dk_thrift.specs.Writing.{IsOpen};
 
 use dk_thrift::Writer;
@@ -48,7 +48,7 @@ pub(crate) fn put_optional(
 ) -> Result<(), AllocError>
     requires { IsOpen writer.old }
     ensures put { OnOk result (Puts (optional_items id 5 value) writer.old writer.new) }
-    ensures small { OnOk result (IsSmall value) }
+    ensures small { OnOk result (IsWithin32Bits value) }
 {
     if let Some(number) = value {
         put_number(writer, id, I32, u64::from(number))?;

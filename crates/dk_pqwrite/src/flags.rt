@@ -3,7 +3,7 @@
 ghost use Rattle.std.specs.Prelude.{◌≡◌, ◌≤◌, OnOk, length, map};
 ghost use Rattle.dk_grammar.specs.Digits.{number_of};
 ghost use Rattle.dk_grammar.specs.Plain.{AreFlags, bit_of};
-ghost use Rattle.dk_pqwrite.specs.Adding.{Adds};
+ghost use Rattle.dk_pqwrite.specs.Adding.{AddsBytes};
 
 use std::alloc::AllocError;
 
@@ -12,7 +12,7 @@ const FLAGS: usize = 8;
 
 /// Adds flags, eight a byte and the least bit first. The last byte is padded with zeros.
 pub(crate) fn add_flags(out: &mut Vec<u8>, flags: &[bool]) -> Result<(), AllocError>
-    ensures { OnOk result (Adds (AreFlags flags.now) (length flags.now) out.old.items out.new.items) }
+    ensures { OnOk result (AddsBytes (AreFlags flags.now) (length flags.now) out.old.items out.new.items) }
 {
     let mut rest = flags;
     while !rest.is_empty() {

@@ -8,7 +8,7 @@ ghost use Rattle.dk_pqmodel.specs.NodeView.{fields_of};
 ghost use Rattle.dk_pqmodel.specs.SchemaView.{fields_in};
 ghost use Rattle.dk_pqwrite.specs.Chunks.{FitsFormat};
 ghost use Rattle.dk_pqwrite.specs.Elements.{fields_of_element, said_of};
-ghost use Rattle.dk_pqwrite.specs.Footers.{AreColumnsOf, EndsFile, PutsSchema, SpellsFields, file_said, footer_of, footer_size, root_said};
+ghost use Rattle.dk_pqwrite.specs.Footers.{AreColumnsOf, EndsFile, PutsSchema, SpellsFileFields, file_said, footer_of, footer_size, root_said};
 ghost use Rattle.dk_pqwrite.specs.Said.{SpellsFileSaid};
 ghost use Rattle.dk_pqwrite.specs.Written.{written_nodes};
 ghost use Rattle.dk_thrift.specs.Writing.{IsOpen};
@@ -100,7 +100,7 @@ pub(crate) fn write_fields(
     group: &RowGroup,
 ) -> Result<Vec<u8>, AllocError>
     requires { FitsFormat group.now }
-    ensures spelled { IfOk result (λ v. SpellsFields (fields_of nodes.now) group.now v.items) }
+    ensures spelled { IfOk result (λ v. SpellsFileFields (fields_of nodes.now) group.now v.items) }
     ensures size { IfOk result (λ v. length v.items ≤ 70 + footer_size (fields_of nodes.now) group.now.chunks.items) }
 {
     let mut writer = Writer::new(alloc);

@@ -4,7 +4,7 @@ ghost use Rattle.std.specs.Prelude.{◌+◌, ◌∷◌, [], All, OnOk, map};
 ghost use Rattle.dk_grammar.specs.Lists.{SpellsEach, SpellsListOf};
 ghost use Rattle.dk_pqwrite.specs.Said.{SpellsChunkSaid, SpellsGroupSaid};
 ghost use Rattle.dk_pqwrite.specs.Chunks.{FitsFormat, IsFit, chunk_said, chunks_size, group_said};
-ghost use Rattle.dk_pqwrite.specs.Items.{PutsHeld, Writes};
+ghost use Rattle.dk_pqwrite.specs.Items.{PutsHeld, WritesValue};
 ghost use Rattle.dk_thrift.specs.Writing.{IsOpen};
 
 use crate::chunk::{Chunk, count, write_chunk};
@@ -36,7 +36,7 @@ pub(crate) fn put_groups(writer: &mut Writer, group: &RowGroup) -> Result<(), Al
 fn write_group(writer: &mut Writer, group: &RowGroup) -> Result<(), AllocError>
     requires in_struct { IsOpen writer.old }
     requires fit { FitsFormat group.now }
-    ensures { OnOk result (Writes SpellsGroupSaid (group_said group.now) (30 + chunks_size group.now.chunks.items) writer.old writer.new) }
+    ensures { OnOk result (WritesValue SpellsGroupSaid (group_said group.now) (30 + chunks_size group.now.chunks.items) writer.old writer.new) }
 {
     writer.enter()?;
     put_chunks(writer, &group.chunks)?;
@@ -63,7 +63,7 @@ fn put_chunks(writer: &mut Writer, chunks: &[Chunk]) -> Result<(), AllocError>
 fn write_chunks(writer: &mut Writer, chunks: &[Chunk]) -> Result<(), AllocError>
     requires in_struct { IsOpen writer.old }
     requires fit { All IsFit chunks.now }
-    ensures { OnOk result (Writes (SpellsEach SpellsChunkSaid) (map chunk_said chunks.now) (chunks_size chunks.now) writer.old writer.new) }
+    ensures { OnOk result (WritesValue (SpellsEach SpellsChunkSaid) (map chunk_said chunks.now) (chunks_size chunks.now) writer.old writer.new) }
 {
     for chunk in chunks {
         write_chunk(writer, chunk)?;

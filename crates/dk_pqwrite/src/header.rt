@@ -4,7 +4,7 @@ ghost use Rattle.std.specs.Prelude.{◌≡◌, ◌∷◌, [], ◌++◌, ◌≤�
 ghost use Rattle.dk_grammar.specs.Spelling.{end_bytes};
 ghost use Rattle.dk_grammar.specs.PageHeaders.{SpellsHeader};
 ghost use Rattle.dk_thrift.specs.Writing.{IsOpen, with_end};
-ghost use Rattle.dk_pqwrite.specs.HeaderBytes.{begun_bytes, data_numbers, dictionary_numbers, page_parts, with_number};
+ghost use Rattle.dk_pqwrite.specs.HeaderBytes.{begun_bytes, data_numbers, dictionary_numbers, page_parts, with_number_field};
 
 use crate::fields::{I32, STRUCT};
 use dk_thrift::Writer;
@@ -93,7 +93,7 @@ fn end_page(writer: Writer) -> Result<Vec<u8>, AllocError>
 /// A number under its id.
 fn add_number(writer: &mut Writer, id: i16, value: u32) -> Result<(), AllocError>
     requires { IsOpen writer.old }
-    ensures { OnOk result (writer.new ≡ with_number id (pos value) writer.old) }
+    ensures { OnOk result (writer.new ≡ with_number_field id (pos value) writer.old) }
 {
     writer.field(id, I32)?;
     writer.whole(i64::from(value))

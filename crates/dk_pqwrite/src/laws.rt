@@ -9,7 +9,7 @@ ghost use Rattle.dk_pqmodel.specs.Projection.{Path, projected_fields, first_misf
 ghost use Rattle.dk_pqmodel.specs.Schema.{IsSchema};
 ghost use Rattle.dk_pqmodel.specs.Shape.{Fields};
 ghost use Rattle.dk_pqmodel.specs.Triples.{triples};
-ghost use Rattle.dk_pqwrite.specs.OverItself.{bare, own_plans, path_in, path_of};
+ghost use Rattle.dk_pqwrite.specs.OverItself.{bare, own_plans, chunk_path, column_path};
 ghost use Rattle.dk_pqwrite.specs.Written.{written_nodes};
 
 /// A schema over the one that is written for it: nothing differs, each field is read at its own path as it is wanted, and rows of the
@@ -25,6 +25,6 @@ pub fn a_schema_is_read_over_the_written_one()
 /// The schema that is written is a tree as a footer has it, and no two of its columns have one path.
 pub fn a_written_schema_is_a_tree()
     ensures tree { (fs : Fields) (root : Element) → IsSchema fs → root.children ≡ count_of (written_nodes fs) → IsTree (root ∷ flat_of (written_nodes fs)) (written_nodes fs) }
-    ensures distinct { (fs : Fields) (chunks : List (Path × Chunk)) → IsSchema fs → map path_in chunks ≡ map path_of (columns_of (own_plans fs []) 0 0)
+    ensures distinct { (fs : Fields) (chunks : List (Path × Chunk)) → IsSchema fs → map chunk_path chunks ≡ map column_path (columns_of (own_plans fs []) 0 0)
         → if_distinct chunks ≡ Some chunks }
 {}

@@ -6,7 +6,7 @@ ghost use Rattle.dk_pqmodel.specs.NodeView.{field_of, fields_of};
 ghost use Rattle.dk_pqmodel.specs.SchemaView.{fields_in};
 ghost use Rattle.dk_pqmodel.specs.Shape.{deepest_in, deepest_of};
 ghost use Rattle.dk_pqwrite.specs.OverItself.{own_plan_in, own_plans};
-ghost use Rattle.dk_pqwrite.specs.SchemaLeaves.{AddsLeaves, HasRoom, entry_columns, leaf_view, names_of, one_column};
+ghost use Rattle.dk_pqwrite.specs.SchemaLeaves.{AddsLeaves, HasRoom, entry_columns, leaf_view, walked_names, one_leaf_column};
 
 use crate::column::{LeafColumn, LeafKind};
 use dk_pqmodel::{Node, NodeKind, Schema};
@@ -79,7 +79,7 @@ fn add_nodes<'a>(
     depth: Depth,
 ) -> Result<(), AllocError>
     requires { HasRoom depth (deepest_of (fields_of nodes.now)) }
-    ensures { OnOk result (AddsLeaves (columns_of (own_plans (fields_of nodes.now) (names_of walk.old.path.items)) depth.rep depth.def) walk.old walk.new) }
+    ensures { OnOk result (AddsLeaves (columns_of (own_plans (fields_of nodes.now) (walked_names walk.old.path.items)) depth.rep depth.def) walk.old walk.new) }
 {
     for node in nodes {
         add_named(alloc, walk, &node.name, node, depth)?;
@@ -97,7 +97,7 @@ fn add_named<'a>(
     depth: Depth,
 ) -> Result<(), AllocError>
     requires { HasRoom depth (deepest_in (field_of node.now)) }
-    ensures { OnOk result (AddsLeaves (columns_in (own_plan_in (field_of node.now) (names_of walk.old.path.items ++ name.now ∷ [])) depth.rep depth.def) walk.old walk.new) }
+    ensures { OnOk result (AddsLeaves (columns_in (own_plan_in (field_of node.now) (walked_names walk.old.path.items ++ name.now ∷ [])) depth.rep depth.def) walk.old walk.new) }
 {
     walk.path.push(name)?;
     add_node(alloc, walk, node, depth)?;
@@ -114,7 +114,7 @@ fn add_node<'a>(
     depth: Depth,
 ) -> Result<(), AllocError>
     requires { HasRoom depth (deepest_in (field_of node.now)) }
-    ensures { OnOk result (AddsLeaves (columns_in (own_plan_in (field_of node.now) (names_of walk.old.path.items)) depth.rep depth.def) walk.old walk.new) }
+    ensures { OnOk result (AddsLeaves (columns_in (own_plan_in (field_of node.now) (walked_names walk.old.path.items)) depth.rep depth.def) walk.old walk.new) }
 {
     let depth = depth.below(node.nullable);
     match &node.kind {
@@ -137,7 +137,7 @@ fn add_element<'a>(
     depth: Depth,
 ) -> Result<(), AllocError>
     requires { HasRoom depth (deepest_in (field_of element.now)) }
-    ensures { OnOk result (AddsLeaves (columns_in (own_plan_in (field_of element.now) (names_of walk.old.path.items ++ codes "list" ∷ codes "element" ∷ [])) depth.rep depth.def) walk.old walk.new) }
+    ensures { OnOk result (AddsLeaves (columns_in (own_plan_in (field_of element.now) (walked_names walk.old.path.items ++ codes "list" ∷ codes "element" ∷ [])) depth.rep depth.def) walk.old walk.new) }
 {
     walk.path.push("list")?;
     add_named(alloc, walk, "element", element, depth)?;
@@ -154,7 +154,7 @@ fn add_entry<'a>(
     depth: Depth,
 ) -> Result<(), AllocError>
     requires { HasRoom depth (deepest_in (field_of value.now)) }
-    ensures { OnOk result (AddsLeaves (entry_columns (field_of value.now) (names_of walk.old.path.items) depth.rep depth.def) walk.old walk.new) }
+    ensures { OnOk result (AddsLeaves (entry_columns (field_of value.now) (walked_names walk.old.path.items) depth.rep depth.def) walk.old walk.new) }
 {
     walk.path.push("key_value")?;
     add_key(alloc, walk, depth)?;
@@ -169,7 +169,7 @@ fn add_key<'a>(
     walk: &mut LeafWalk<'a>,
     depth: Depth,
 ) -> Result<(), AllocError>
-    ensures { OnOk result (AddsLeaves (one_column (names_of walk.old.path.items ++ codes "key" ∷ []) LeafKind.Chars depth.rep depth.def) walk.old walk.new) }
+    ensures { OnOk result (AddsLeaves (one_leaf_column (walked_names walk.old.path.items ++ codes "key" ∷ []) LeafKind.Chars depth.rep depth.def) walk.old walk.new) }
 {
     walk.path.push("key")?;
     add_leaf(alloc, walk, LeafKind::Chars, depth)?;
@@ -184,7 +184,7 @@ fn add_leaf(
     kind: LeafKind,
     depth: Depth,
 ) -> Result<(), AllocError>
-    ensures { OnOk result (AddsLeaves (one_column (names_of walk.old.path.items) kind depth.rep depth.def) walk.old walk.new) }
+    ensures { OnOk result (AddsLeaves (one_leaf_column (walked_names walk.old.path.items) kind depth.rep depth.def) walk.old walk.new) }
 {
     let path = copy_names(alloc, &walk.path)?;
     let Depth { rep, def } = depth;
@@ -197,7 +197,7 @@ fn add_leaf(
 
 /// The same names, owned.
 fn copy_names(alloc: Global, names: &[&str]) -> Result<Vec<String>, AllocError>
-    ensures { IfOk result (λ v. map string_bytes v.items ≡ names_of names.now) }
+    ensures { IfOk result (λ v. map string_bytes v.items ≡ walked_names names.now) }
 {
     let mut owned = Vec::with_capacity(alloc, names.len())?;
     for name in names {

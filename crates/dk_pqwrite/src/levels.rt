@@ -2,7 +2,7 @@
 
 ghost use Rattle.std.specs.Prelude.{◌≡◌, ◌≤◌, ◌<◌, ◌^◌, ◌++◌, IfOk, OnOk, All, length, map};
 ghost use Rattle.dk_grammar.specs.Plain.{little};
-ghost use Rattle.dk_levels.specs.Borrowed.{triple_of};
+ghost use Rattle.dk_levels.specs.Borrowed.{borrowed_triple};
 ghost use Rattle.dk_pqmodel.specs.FilePages.{IsWidth};
 ghost use Rattle.dk_pqwrite.specs.AddedLevels.{AddsLevels};
 
@@ -15,7 +15,7 @@ pub(crate) fn repetitions(
     alloc: Global,
     triples: &[BorrowedTriple<'_>],
 ) -> Result<Vec<u32>, AllocError>
-    ensures { IfOk result (λ v. v.items ≡ map (λ e. e.repetition) (map triple_of triples.now)) }
+    ensures { IfOk result (λ v. v.items ≡ map (λ e. e.repetition) (map borrowed_triple triples.now)) }
 {
     let mut levels = Vec::with_capacity(alloc, triples.len())?;
     for triple in triples {
@@ -29,7 +29,7 @@ pub(crate) fn definitions(
     alloc: Global,
     triples: &[BorrowedTriple<'_>],
 ) -> Result<Vec<u32>, AllocError>
-    ensures { IfOk result (λ v. v.items ≡ map (λ e. e.definition) (map triple_of triples.now)) }
+    ensures { IfOk result (λ v. v.items ≡ map (λ e. e.definition) (map borrowed_triple triples.now)) }
 {
     let mut levels = Vec::with_capacity(alloc, triples.len())?;
     for triple in triples {

@@ -1,18 +1,18 @@
 //! Pages (Apache Parquet, "Data Pages").
 
 ghost use Rattle.std.specs.Prelude.{◌≡◌, ◌+◌, ◌*◌, ◌<◌, ◌≤◌, ◌^◌, IfOk, None, OnOk, Some, [], length, map, pos};
-ghost use Rattle.dk_levels.specs.Borrowed.{triple_of};
+ghost use Rattle.dk_levels.specs.Borrowed.{borrowed_triple};
 ghost use Rattle.dk_pqmodel.specs.Datum.{chars};
 ghost use Rattle.dk_pqmodel.specs.FilePages.{IsDataV1, IsDictionary, IsPage};
 ghost use Rattle.dk_pqmodel.specs.Projection.{Path};
 ghost use Rattle.dk_pqmodel.specs.Shape.{chars as shape_chars};
-ghost use Rattle.dk_pqwrite.specs.Adding.{Adds};
+ghost use Rattle.dk_pqwrite.specs.Adding.{AddsBytes};
 ghost use Rattle.dk_pqwrite.specs.DataPages.{HoldBoth};
 ghost use Rattle.dk_pqwrite.specs.FirstUses.{AreTheirs, texts_in};
 ghost use Rattle.dk_pqwrite.specs.HeaderBytes.{data_numbers, page_parts};
 ghost use Rattle.dk_pqwrite.specs.PlainValues.{ArePlain, plain_size};
 ghost use Rattle.dk_pqwrite.specs.Writable.{IsWritable};
-ghost use Rattle.dk_pqwrite.specs.WrittenColumn.{column_at, leaf_of, values_in};
+ghost use Rattle.dk_pqwrite.specs.WrittenColumn.{leaf_column_at, leaf_of_kind, values_of_column};
 
 use crate::column::LeafColumn;
 use crate::dictionary::Dictionary;
@@ -30,9 +30,9 @@ pub(crate) fn add_plain_page(
     column: LeafColumn,
     triples: &[BorrowedTriple<'_>],
 ) -> Result<(), AllocError>
-    requires { IsWritable (column_at [] column) (map triple_of triples.now) }
-    ensures { OnOk result ((path : Path) → Adds (λ bytes. IsDataV1 (column_at path column) None bytes (map triple_of triples.now))
-        (133 + 10 * length triples.now + plain_size (values_in (map triple_of triples.now))) out.old.items out.new.items) }
+    requires { IsWritable (leaf_column_at [] column) (map borrowed_triple triples.now) }
+    ensures { OnOk result ((path : Path) → AddsBytes (λ bytes. IsDataV1 (leaf_column_at path column) None bytes (map borrowed_triple triples.now))
+        (133 + 10 * length triples.now + plain_size (values_of_column (map borrowed_triple triples.now))) out.old.items out.new.items) }
 {
     let mut body = levels_of(alloc, column, triples)?;
     add_plain(alloc, &mut body, column.kind, triples)?;
@@ -47,11 +47,11 @@ pub(crate) fn add_coded_page(
     dictionary: &Dictionary<'_>,
     triples: &[BorrowedTriple<'_>],
 ) -> Result<(), AllocError>
-    requires kind { leaf_of column.kind ≡ shape_chars }
-    requires writable { IsWritable (column_at [] column) (map triple_of triples.now) }
-    requires places { AreTheirs (map (λ k. k.now) dictionary.now.texts.keys) dictionary.now.places.items (texts_in (map triple_of triples.now)) }
+    requires kind { leaf_of_kind column.kind ≡ shape_chars }
+    requires writable { IsWritable (leaf_column_at [] column) (map borrowed_triple triples.now) }
+    requires places { AreTheirs (map (λ k. k.now) dictionary.now.texts.keys) dictionary.now.places.items (texts_in (map borrowed_triple triples.now)) }
     requires distinct { length dictionary.now.texts.keys ≤ 2 ^ 26 }
-    ensures { OnOk result ((path : Path) → Adds (λ bytes. IsDataV1 (column_at path column) (Some (map chars (map (λ k. k.now) dictionary.now.texts.keys))) bytes (map triple_of triples.now))
+    ensures { OnOk result ((path : Path) → AddsBytes (λ bytes. IsDataV1 (leaf_column_at path column) (Some (map chars (map (λ k. k.now) dictionary.now.texts.keys))) bytes (map borrowed_triple triples.now))
         (174 + 15 * length triples.now) out.old.items out.new.items) }
 {
     let mut body = levels_of(alloc, column, triples)?;
@@ -67,7 +67,7 @@ pub(crate) fn add_dictionary_page(
 ) -> Result<(), AllocError>
     requires few { length texts.now ≤ 2 ^ 26 }
     requires small { plain_size (map chars (map (λ k. k.now) texts.now)) ≤ 2 ^ 30 }
-    ensures { OnOk result (Adds (λ bytes. IsDictionary shape_chars bytes (map chars (map (λ k. k.now) texts.now)))
+    ensures { OnOk result (AddsBytes (λ bytes. IsDictionary shape_chars bytes (map chars (map (λ k. k.now) texts.now)))
         (33 + plain_size (map chars (map (λ k. k.now) texts.now))) out.old.items out.new.items) }
 {
     let body = texts_in_plain(alloc, texts)?;
@@ -96,8 +96,8 @@ fn levels_of(
     column: LeafColumn,
     triples: &[BorrowedTriple<'_>],
 ) -> Result<Vec<u8>, AllocError>
-    requires { IsWritable (column_at [] column) (map triple_of triples.now) }
-    ensures { IfOk result (λ v. HoldBoth column (map triple_of triples.now) v.items) }
+    requires { IsWritable (leaf_column_at [] column) (map borrowed_triple triples.now) }
+    ensures { IfOk result (λ v. HoldBoth column (map borrowed_triple triples.now) v.items) }
 {
     let mut body = Vec::new(alloc);
     if column.rep > 0 {
@@ -120,7 +120,7 @@ fn end_data_page(
     requires values { values < 2 ^ 31 }
     requires encoding { encoding < 2 ^ 31 }
     requires size { length body.now < 2 ^ 31 }
-    ensures { OnOk result (Adds (λ bytes. IsPage (pos 0) (page_parts 0 (length body.now) (pos 5) (data_numbers values encoding)) body.now bytes)
+    ensures { OnOk result (AddsBytes (λ bytes. IsPage (pos 0) (page_parts 0 (length body.now) (pos 5) (data_numbers values encoding)) body.now bytes)
         (45 + length body.now) out.old.items out.new.items) }
 {
     let header = data_header(alloc, values, encoding, body.len() as u32)?;

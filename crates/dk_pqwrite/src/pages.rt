@@ -1,13 +1,13 @@
 //! The pages of a column, and the chunk that says where they stand.
 
 ghost use Rattle.std.specs.Prelude.{◌≡◌, ◌<◌, ◌≤◌, [], true, false, IfOk, is_some, length, map, pos};
-ghost use Rattle.dk_levels.specs.Borrowed.{triple_of};
+ghost use Rattle.dk_levels.specs.Borrowed.{borrowed_triple};
 ghost use Rattle.dk_pqmodel.specs.FilePages.{physical_type};
 ghost use Rattle.dk_pqmodel.specs.Shape.{chars as shape_chars};
 ghost use Rattle.dk_pqwrite.specs.SchemaLeaves.{leaf_view};
-ghost use Rattle.dk_pqwrite.specs.Writable.{IsWritable};
+ghost use Rattle.dk_pqwrite.specs.Writable.{IsWritableColumn};
 ghost use Rattle.dk_pqwrite.specs.WrittenChunk.{WritesColumn, has_dictionary};
-ghost use Rattle.dk_pqwrite.specs.WrittenColumn.{column_at, leaf_of};
+ghost use Rattle.dk_pqwrite.specs.WrittenColumn.{leaf_column_at, leaf_of_kind};
 
 use crate::chunk::Chunk;
 use crate::column::LeafKind;
@@ -27,8 +27,8 @@ pub(crate) fn write_column(
     dictionary: bool,
 ) -> Result<Chunk, AllocError>
     requires begun { 0 < length out.old.items }
-    requires writable { IsWritable (column_at [] leaf.column) (map triple_of triples.now) }
-    ensures written { IfOk result (λ chunk. WritesColumn (leaf_view leaf) (map triple_of triples.now) chunk out.old.items out.new.items) }
+    requires writable { IsWritableColumn (leaf_column_at [] leaf.column) (map borrowed_triple triples.now) }
+    ensures written { IfOk result (λ chunk. WritesColumn (leaf_view leaf) (map borrowed_triple triples.now) chunk out.old.items out.new.items) }
     ensures coded { IfOk result (λ chunk. is_some chunk.dictionary_page ≡ has_dictionary leaf.column.kind dictionary) }
 {
     match leaf.column.kind {
@@ -44,8 +44,8 @@ fn write_plain(
     leaf: SchemaLeaf,
     triples: &[BorrowedTriple<'_>],
 ) -> Result<Chunk, AllocError>
-    requires { IsWritable (column_at [] leaf.column) (map triple_of triples.now) }
-    ensures written { IfOk result (λ chunk. WritesColumn (leaf_view leaf) (map triple_of triples.now) chunk out.old.items out.new.items) }
+    requires { IsWritableColumn (leaf_column_at [] leaf.column) (map borrowed_triple triples.now) }
+    ensures written { IfOk result (λ chunk. WritesColumn (leaf_view leaf) (map borrowed_triple triples.now) chunk out.old.items out.new.items) }
     ensures plain { IfOk result (λ chunk. is_some chunk.dictionary_page ≡ false) }
 {
     let first_page = out.len() as u64;
@@ -69,9 +69,9 @@ fn write_coded(
     triples: &[BorrowedTriple<'_>],
 ) -> Result<Chunk, AllocError>
     requires begun { 0 < length out.old.items }
-    requires kind { leaf_of leaf.column.kind ≡ shape_chars }
-    requires writable { IsWritable (column_at [] leaf.column) (map triple_of triples.now) }
-    ensures written { IfOk result (λ chunk. WritesColumn (leaf_view leaf) (map triple_of triples.now) chunk out.old.items out.new.items) }
+    requires kind { leaf_of_kind leaf.column.kind ≡ shape_chars }
+    requires writable { IsWritableColumn (leaf_column_at [] leaf.column) (map borrowed_triple triples.now) }
+    ensures written { IfOk result (λ chunk. WritesColumn (leaf_view leaf) (map borrowed_triple triples.now) chunk out.old.items out.new.items) }
     ensures coded { IfOk result (λ chunk. is_some chunk.dictionary_page ≡ true) }
 {
     let dictionary = dictionary_of(alloc, triples)?;
@@ -92,7 +92,7 @@ fn write_coded(
 
 /// The code of the type that values of this kind are stored as (Apache Parquet, "Types").
 fn physical_type(kind: LeafKind) -> u8
-    ensures code { pos result ≡ physical_type (leaf_of kind) }
+    ensures code { pos result ≡ physical_type (leaf_of_kind kind) }
     ensures small { result ≤ 6 }
 {
     match kind {

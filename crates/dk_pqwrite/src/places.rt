@@ -3,7 +3,7 @@
 ghost use Rattle.std.specs.Prelude.{◌+◌, ◌*◌, ◌<◌, ◌≤◌, ◌^◌, All, List, ℕ, OnOk, length, map};
 ghost use Rattle.dk_pqmodel.specs.Datum.{chars};
 ghost use Rattle.dk_pqmodel.specs.FilePages.{BehindWidth};
-ghost use Rattle.dk_pqwrite.specs.Adding.{Adds};
+ghost use Rattle.dk_pqwrite.specs.Adding.{AddsBytes};
 ghost use Rattle.dk_pqwrite.specs.FirstUses.{AreTheirs};
 
 use crate::dictionary::Dictionary;
@@ -20,7 +20,7 @@ pub(crate) fn add_places(
     requires few { length dictionary.now.texts.keys ≤ 2 ^ 26 }
     requires fit { All (λ place. place < length dictionary.now.texts.keys) dictionary.now.places.items }
     ensures { OnOk result ((texts : List (List ℕ)) → AreTheirs (map (λ k. k.now) dictionary.now.texts.keys) dictionary.now.places.items texts
-        → Adds (BehindWidth (map chars (map (λ k. k.now) dictionary.now.texts.keys)) (map chars texts)) (41 + 5 * length dictionary.now.places.items) out.old.items out.new.items) }
+        → AddsBytes (BehindWidth (map chars (map (λ k. k.now) dictionary.now.texts.keys)) (map chars texts)) (41 + 5 * length dictionary.now.places.items) out.old.items out.new.items) }
 {
     let width = width(dictionary.texts.len());
     let runs = encode(alloc, &dictionary.places, width)?;

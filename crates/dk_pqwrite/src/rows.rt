@@ -1,7 +1,7 @@
 //! Whole files from rows.
 
 ghost use Rattle.std.specs.Prelude.{◌<◌, ◌≤◌, IfOk, length, map};
-ghost use Rattle.dk_levels.specs.Borrowed.{columns_of};
+ghost use Rattle.dk_levels.specs.Borrowed.{borrowed_columns};
 ghost use Rattle.dk_pqmodel.specs.FileMeans.{FileMeans};
 ghost use Rattle.dk_pqmodel.specs.Fits.{Fit};
 ghost use Rattle.dk_pqmodel.specs.RowView.{rows_of};
@@ -62,8 +62,8 @@ fn write_columns(
     dictionary: bool,
 ) -> Result<Vec<Chunk>, AllocError>
     requires begun { 0 < length out.old.items }
-    requires writable { AreWritable (map leaf_view leaves.items) (columns_of columns.now) }
-    ensures { IfOk result (λ chunks. WritesColumns (map leaf_view leaves.items) (columns_of columns.now) chunks.items out.old.items out.new.items) }
+    requires writable { AreWritable (map leaf_view leaves.items) (borrowed_columns columns.now) }
+    ensures { IfOk result (λ chunks. WritesColumns (map leaf_view leaves.items) (borrowed_columns columns.now) chunks.items out.old.items out.new.items) }
 {
     let mut leaves = leaves.into_iter();
     let mut chunks = Vec::new(alloc);

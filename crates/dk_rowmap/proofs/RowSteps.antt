@@ -14,10 +14,10 @@ use Rattle.std.proofs.lemmas.Cmp.{nat_list_cmp_total}
 use Rattle.serde_json.specs.Data.{Data, Items, Members, no_members, member, object, put}
 use Rattle.serde_json.specs.Find.{get_member}
 use Rattle.serde_json.proofs.Views.{get_member-put, get_member-put_other}
-use Rattle.dk_pqmodel.specs.Shape.{Shape, leaf, map_of, Field, Fields, no_fields, one_field, name_in, shape_in, fields_at, element_at}
+use Rattle.dk_pqmodel.specs.Shape.{Shape, leaf, map_of, Field, Fields, no_fields, one_field, field_name, shape_in, fields_at, element_at}
 use Rattle.dk_pqmodel.specs.Shape as shape
 use Rattle.dk_pqmodel.specs.Datum.{Value, Datum, null, atom, group, list, chars, flag, int, Cells, no_cells, one_cell}
-use Rattle.dk_pqmodel.specs.Object.{list_or_map, value_at, json_in, members_of, items_of, entries_of, put_present, key_in}
+use Rattle.dk_pqmodel.specs.Object.{list_or_map, value_at, json_in, members_of, items_of, entries_of, put_present, entry_key}
 use Rattle.dk_model.specs.Fields.{present, field, text, text_or_null, texts_of, pairs_of}
 use Rattle.dk_model.specs.declared.action.Action.{Action}
 use Rattle.dk_model.specs.CommitText.{after_line, with_front, commit_in}
@@ -32,7 +32,7 @@ use Rattle.dk_rowmap.specs.declared.fault.RowFault.{RowFault}
 use Rattle.dk_rowmap.specs.declared.fault.RowFault.TheVariants as row
 use Rattle.dk_rowmap.specs.RowFaults.{GivesRows, GivesMeaning}
 use Rattle.dk_rowmap.specs.RowsReading.{rows_reading}
-use Rattle.dk_rowmap.specs.Parts.{turned, group_data, named_part, text_in, slot_in, entry_in, entry_value, after_entries, after_field, slots_in}
+use Rattle.dk_rowmap.specs.Parts.{turned, group_data, named_part, text_in, slot_in, entry_in, entry_value, after_entries, after_group_field, slots_in}
 use Rattle.dk_rowmap.specs.declared.part.Depth.{Depth}
 use Rattle.dk_rowmap.specs.declared.part.Depth.TheVariants as depth
 
@@ -68,13 +68,13 @@ value_is (int n) f = refl
 value_is (chars t) f = refl
 
 -- a field is that of the first cell, or of one after it
-by_cell : (q : List ℕ) (f : Field) (c : Datum) (ms : Members) → present (get_member q (put_present (name_in f) c (json_in c f) ms)) ≡ option_or (named_part q f c) (present (get_member q ms))
-by_cell q f null ms = ap (λ o. option_or o (present (get_member q ms))) (sym (none_cond (bytes_eq (name_in f) q)))
-by_cell q f (atom v) ms = by_name q (name_in f) (json_in (atom v) f) ms (bytes_eq (name_in f) q) refl (value_is v f) ∙ ap (λ o. option_or (cond (bytes_eq (name_in f) q) o None) (present (get_member q ms))) (sym (value_is v f))
-by_cell q f (group cs) ms = by_name q (name_in f) (json_in (group cs) f) ms (bytes_eq (name_in f) q) refl refl
+by_cell : (q : List ℕ) (f : Field) (c : Datum) (ms : Members) → present (get_member q (put_present (field_name f) c (json_in c f) ms)) ≡ option_or (named_part q f c) (present (get_member q ms))
+by_cell q f null ms = ap (λ o. option_or o (present (get_member q ms))) (sym (none_cond (bytes_eq (field_name f) q)))
+by_cell q f (atom v) ms = by_name q (field_name f) (json_in (atom v) f) ms (bytes_eq (field_name f) q) refl (value_is v f) ∙ ap (λ o. option_or (cond (bytes_eq (field_name f) q) o None) (present (get_member q ms))) (sym (value_is v f))
+by_cell q f (group cs) ms = by_name q (field_name f) (json_in (group cs) f) ms (bytes_eq (field_name f) q) refl refl
 by_cell q f (list cs) ms =
-    by_name q (name_in f) (json_in (list cs) f) ms (bytes_eq (name_in f) q) refl (list_is (shape_in f) _ _)
-    ∙ ap (λ o. option_or (cond (bytes_eq (name_in f) q) o None) (present (get_member q ms))) (sym (list_is (shape_in f) _ _))
+    by_name q (field_name f) (json_in (list cs) f) ms (bytes_eq (field_name f) q) refl (list_is (shape_in f) _ _)
+    ∙ ap (λ o. option_or (cond (bytes_eq (field_name f) q) o None) (present (get_member q ms))) (sym (list_is (shape_in f) _ _))
 
 pub one_step : (q : List ℕ) (d : Depth) (f : Field) (fs : Fields) (c : Datum) (cs : Cells)
     → field q (group_data d (one_field f fs) (one_cell c cs)) ≡ option_or (named_part q f (turned d f c)) (field q (group_data d fs cs))
@@ -134,8 +134,8 @@ map_slots (one_cell (list ds) cs) f ms = map_slots cs f ms
 map_slots (one_cell (group no_cells) cs) f ms = map_slots cs f ms
 map_slots (one_cell (group (one_cell k no_cells)) cs) f ms = map_slots cs f ms
 map_slots (one_cell (group (one_cell k (one_cell v no_cells))) cs) f ms =
-    map_slots cs f (put (key_in k) (json_in v f) ms)
-    ∙ ap (after_entries cs) (slots_put (key_in k) (json_in v f) ms ∙ ap (λ x. fin.put (slice_cmp nat_cmp) (key_in k) x (slots ms)) (slot_in_is v f))
+    map_slots cs f (put (entry_key k) (json_in v f) ms)
+    ∙ ap (after_entries cs) (slots_put (entry_key k) (json_in v f) ms ∙ ap (λ x. fin.put (slice_cmp nat_cmp) (entry_key k) x (slots ms)) (slot_in_is v f))
 map_slots (one_cell (group (one_cell k (one_cell v (one_cell w ws)))) cs) f ms = map_slots cs f ms
 
 pub map_pairs : (cs : Cells) (f : Field) → pairs_of (entries_of cs f no_members) ≡ all_slots (after_entries cs [])
@@ -143,17 +143,17 @@ map_pairs cs f = pairs_of-slots (entries_of cs f no_members) ∙ ap all_slots (m
 
 pub group_slots : (d : Depth) (f : Field) (fs : Fields) (c : Datum) (cs : Cells)
     → slots (members_of (each_by (turned d) (one_field f fs) (one_cell c cs)) (one_field f fs))
-    ≡ after_field (name_in f) (present (Some (json_in (turned d f c) f))) (slots (members_of (each_by (turned d) fs cs) fs))
+    ≡ after_group_field (field_name f) (present (Some (json_in (turned d f c) f))) (slots (members_of (each_by (turned d) fs cs) fs))
 group_slots d f fs c cs = by_turned (turned d f c)
   where
     rest : Members
     rest = members_of (each_by (turned d) fs cs) fs
 
-    by_turned : (c : Datum) → slots (put_present (name_in f) c (json_in c f) rest) ≡ after_field (name_in f) (present (Some (json_in c f))) (slots rest)
+    by_turned : (c : Datum) → slots (put_present (field_name f) c (json_in c f) rest) ≡ after_group_field (field_name f) (present (Some (json_in c f))) (slots rest)
     by_turned null = refl
-    by_turned (atom v) = slots_put (name_in f) (json_in (atom v) f) rest ∙ ap (λ o. after_field (name_in f) o (slots rest)) (sym (value_is v f))
-    by_turned (group ds) = slots_put (name_in f) (json_in (group ds) f) rest
-    by_turned (list ds) = slots_put (name_in f) (json_in (list ds) f) rest ∙ ap (λ o. after_field (name_in f) o (slots rest)) (sym (list_is (shape_in f) _ _))
+    by_turned (atom v) = slots_put (field_name f) (json_in (atom v) f) rest ∙ ap (λ o. after_group_field (field_name f) o (slots rest)) (sym (value_is v f))
+    by_turned (group ds) = slots_put (field_name f) (json_in (group ds) f) rest
+    by_turned (list ds) = slots_put (field_name f) (json_in (list ds) f) rest ∙ ap (λ o. after_group_field (field_name f) o (slots rest)) (sym (list_is (shape_in f) _ _))
 
 -- one more key
 pub inserted : (m n : Slots) (k : List ℕ) (x : Option (Option (List ℕ))) → n ≡ insert m k x → entries n ≡ fin.put (slice_cmp nat_cmp) k x (entries m)
@@ -223,12 +223,12 @@ slots_are (member k d ms) = ap (λ es. (k, text_or_null d) ∷ es) (slots_are ms
 
 -- a field more, from the back
 pub group_turn : (d : Depth) (n : Node) (ns : List Node) (c : Cell) (cs : List Cell) (before after : List Slot)
-    → after ≡ after_field (name_in (field_of n)) (present (Some (json_in (turned d (field_of n) (datum_of c)) (field_of n)))) before
+    → after ≡ after_group_field (field_name (field_of n)) (present (Some (json_in (turned d (field_of n) (datum_of c)) (field_of n)))) before
     → before ≡ slots_in (members_of (each_by (turned d) (fields_of ns) (cells_of cs)) (fields_of ns))
     → after ≡ slots_in (members_of (each_by (turned d) (fields_of (n ∷ ns)) (cells_of (c ∷ cs))) (fields_of (n ∷ ns)))
 group_turn d n ns c cs before after more so_far =
-    more ∙ ap (after_field (name_in (field_of n)) (present (Some (json_in (turned d (field_of n) (datum_of c)) (field_of n))))) so_far
-    ∙ sym (sym (slots_are _) ∙ group_slots d (field_of n) (fields_of ns) (datum_of c) (cells_of cs) ∙ ap (after_field (name_in (field_of n)) (present (Some (json_in (turned d (field_of n) (datum_of c)) (field_of n))))) (slots_are _))
+    more ∙ ap (after_group_field (field_name (field_of n)) (present (Some (json_in (turned d (field_of n) (datum_of c)) (field_of n))))) so_far
+    ∙ sym (sym (slots_are _) ∙ group_slots d (field_of n) (fields_of ns) (datum_of c) (cells_of cs) ∙ ap (after_group_field (field_name (field_of n)) (present (Some (json_in (turned d (field_of n) (datum_of c)) (field_of n))))) (slots_are _))
 
 -- the rows from here on, after one row was read
 joined_front : (front : List Action) (a : Option Action) (r : Result (List Action) ℕ) → with_front front (with_front (option_to_list a) r) ≡ with_front (front ++ option_to_list a) r
@@ -253,7 +253,7 @@ by_bool false cs = refl
 
 list_turned : (d : Depth) (f : Field) (cs : Cells) → turned d f (list cs) ≡ list cs
 list_turned depth.Row f cs = refl
-list_turned depth.Kind f cs = by_bool (is_vector_name (name_in f)) cs
+list_turned depth.Kind f cs = by_bool (is_vector_name (field_name f)) cs
 list_turned depth.Inner f cs = refl
 
 pub part_list : (d : Depth) (n : Node) (cs : Cells) (x : Data) → x ≡ list_or_map (shape_of n.kind) (items_of cs (element_at (shape_of n.kind))) (entries_of cs (value_at (shape_of n.kind)) no_members)
@@ -279,7 +279,7 @@ find_turn q d ns cs i n c node cell node_is cell_is =
 -- a field more, from the back, in lists
 pub group_back : (d : Depth) (ns : List Node) (cs : List Cell) (p place : ℕ) (n : Node) (c : Cell) (before after : List Slot) → place ≡ p + 1
     → p < length ns → p < length cs → n ≡ get_or ns p n → c ≡ get_or cs p c
-    → after ≡ after_field (name_in (field_of n)) (present (Some (json_in (turned d (field_of n) (datum_of c)) (field_of n)))) before
+    → after ≡ after_group_field (field_name (field_of n)) (present (Some (json_in (turned d (field_of n) (datum_of c)) (field_of n)))) before
     → before ≡ slots_in (members_of (each_by (turned d) (fields_of (drop place ns)) (cells_of (drop place cs))) (fields_of (drop place ns)))
     → after ≡ slots_in (members_of (each_by (turned d) (fields_of (drop p ns)) (cells_of (drop p cs))) (fields_of (drop p ns)))
 group_back d ns cs p place n c before after next node cell node_is cell_is more so_far =
@@ -314,8 +314,8 @@ by_entries q f (one_cell (list ds) cs) ms = by_entries q f cs ms
 by_entries q f (one_cell (group no_cells) cs) ms = by_entries q f cs ms
 by_entries q f (one_cell (group (one_cell k no_cells)) cs) ms = by_entries q f cs ms
 by_entries q f (one_cell (group (one_cell k (one_cell v no_cells))) cs) ms =
-    by_entries q f cs (put (key_in k) (json_in v f) ms)
-    ∙ ap (entries_value q f cs) (value_in q (key_in k) (json_in v f) ms (bytes_eq (key_in k) q) refl)
+    by_entries q f cs (put (entry_key k) (json_in v f) ms)
+    ∙ ap (entries_value q f cs) (value_in q (entry_key k) (json_in v f) ms (bytes_eq (entry_key k) q) refl)
 by_entries q f (one_cell (group (one_cell k (one_cell v (one_cell w ws)))) cs) ms = by_entries q f cs ms
 
 pub map_field : (q : List ℕ) (f : Field) (cs : Cells) → field q (object (entries_of cs f no_members)) ≡ entries_value q f cs None

@@ -6,9 +6,9 @@ use Rattle.std.specs.Ordering.{nat_cmp}
 use Rattle.std.specs.Cmp.Lexicographic.{slice_cmp}
 use Rattle.std.specs.Prelude.{Option, Some, None}
 use Rattle.serde_json.specs.Data.{Data, boolean, number, string, array, object, Members, no_members, member}
-use Rattle.dk_pqmodel.specs.Shape.{Field, Fields, name_in, element_at}
+use Rattle.dk_pqmodel.specs.Shape.{Field, Fields, field_name, element_at}
 use Rattle.dk_pqmodel.specs.Datum.{Datum, null, atom, group, chars, Cells, no_cells, one_cell}
-use Rattle.dk_pqmodel.specs.Object.{num_of, json_in, members_of, items_of, entries_of, key_in}
+use Rattle.dk_pqmodel.specs.Object.{whole_num, json_in, members_of, items_of, entries_of, entry_key}
 use Rattle.dk_pqmodel.specs.RowView.{cells_of}
 use Rattle.dk_pqmodel.specs.NodeView.{field_of, fields_of, shape_of}
 use Rattle.dk_model.specs.Fields.{present, text_or_null}
@@ -31,7 +31,7 @@ group_data d fs cs = object (members_of (each_by (turned d) fs cs) fs)
 
 abbrev pub data_in : Part → Data
 data_in (part.Flag b) = boolean b
-data_in (part.Int n) = number (num_of n)
+data_in (part.Int n) = number (whole_num n)
 data_in (part.Chars t) = string t.now
 data_in (part.Group cells nodes d) = group_data d (fields_of nodes.now) (cells_of cells.now)
 data_in (part.List cells kind) = array (items_of (cells_of cells.now) (element_at (shape_of kind.now)))
@@ -39,7 +39,7 @@ data_in (part.Map cells value) = object (entries_of (cells_of cells.now) (field_
 
 -- a cell, where its field has that name and it isn't null
 abbrev pub named_part : List ℕ → Field → Datum → Option Data
-named_part q f c = if bytes_eq (name_in f) q then present (Some (json_in c f)) else None
+named_part q f c = if bytes_eq (field_name f) q then present (Some (json_in c f)) else None
 
 -- the text of a cell, if it is one
 abbrev pub text_in : Datum → Option (List ℕ)
@@ -60,12 +60,12 @@ entry_in _ = None
 -- the value of an entry of that key, else what was found before it
 abbrev pub entry_value : List ℕ → Field → Option (Datum × Datum) → Option Data → Option Data
 entry_value q f None found = found
-entry_value q f (Some e) found = if bytes_eq (key_in e.0) q then present (Some (json_in e.1 f)) else found
+entry_value q f (Some e) found = if bytes_eq (entry_key e.0) q then present (Some (json_in e.1 f)) else found
 
 -- after an entry of a map went in, if there is one
 abbrev pub after_entry : Option (Datum × Datum) → List Slot → List Slot
 after_entry None es = es
-after_entry (Some e) es = fin.put (slice_cmp nat_cmp) (key_in e.0) (slot_in e.1) es
+after_entry (Some e) es = fin.put (slice_cmp nat_cmp) (entry_key e.0) (slot_in e.1) es
 
 -- after the entries of a map went in, one after another
 abbrev pub after_entries : Cells → List Slot → List Slot
@@ -78,6 +78,6 @@ slots_in no_members = []
 slots_in (member k d ms) = (k, text_or_null d) ∷ slots_in ms
 
 -- after a field of a group went in, where it has a value
-abbrev pub after_field : List ℕ → Option Data → List Slot → List Slot
-after_field name None es = es
-after_field name (Some d) es = fin.put (slice_cmp nat_cmp) name (text_or_null d) es
+abbrev pub after_group_field : List ℕ → Option Data → List Slot → List Slot
+after_group_field name None es = es
+after_group_field name (Some d) es = fin.put (slice_cmp nat_cmp) name (text_or_null d) es

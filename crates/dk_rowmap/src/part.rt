@@ -2,8 +2,8 @@
 
 ghost use Rattle.std.specs.Prelude.{◌≡◌, ◌≤◌, ◌&&◌, [], length, min, Some, option_map, IfOk};
 ghost use Rattle.std.specs.FinMap as map;
-ghost use Rattle.dk_pqmodel.specs.Shape.{name_in, fields_at, element_at};
-ghost use Rattle.dk_pqmodel.specs.Object.{json_in, members_of, items_of, entries_of, list_or_map, key_in, value_at, num_of};
+ghost use Rattle.dk_pqmodel.specs.Shape.{field_name, fields_at, element_at};
+ghost use Rattle.dk_pqmodel.specs.Object.{json_in, members_of, items_of, entries_of, list_or_map, entry_key, value_at, whole_num};
 ghost use Rattle.dk_pqmodel.specs.Datum.{group};
 ghost use Rattle.dk_pqmodel.specs.RowView.{datum_of, cells_of};
 ghost use Rattle.dk_pqmodel.specs.NodeView.{field_of, fields_of, shape_of};
@@ -11,7 +11,7 @@ ghost use Rattle.serde_json.specs.Data.{no_members, number, object};
 ghost use Rattle.dk_model.specs.Fields.{field as field_named, present, texts_of, pairs_of, pairs, text_or_null, whole};
 ghost use Rattle.dk_lawful.specs.CheckpointRows.{all_null as are_all_null, is_null as is_null_cell, is_vector_name, each_by};
 ghost use Rattle.dk_actjson.specs.Faults.{Gives};
-ghost use Rattle.dk_rowmap.specs.Parts.{turned, group_data, data_in, named_part, text_in, slot_in, entry_in, entry_value, after_entry, after_entries, after_field, slots_in};
+ghost use Rattle.dk_rowmap.specs.Parts.{turned, group_data, data_in, named_part, text_in, slot_in, entry_in, entry_value, after_entry, after_entries, after_group_field, slots_in};
 
 use dk_actjson::{ActionFault, Tree, pairs_of_slots};
 use dk_model::{Names, Pairs, Text, TextMap};
@@ -127,7 +127,7 @@ impl<'a> Tree for Part<'a> {
 
 /// Does nothing but say, for proofs, that a number of 64 bits is read as itself.
 fn whole_of(given: i64) -> i64
-    ensures { whole (number (num_of given)) ≡ Some result }
+    ensures { whole (number (whole_num given)) ≡ Some result }
 {
     given
 }
@@ -251,7 +251,7 @@ fn inner<'a>(cells: &'a [Cell], nodes: &'a [Node]) -> Part<'a>
 
 /// Whether it is a deletion vector without a storage type.
 fn is_no_vector(cells: &[Cell], node: &Node) -> bool
-    ensures { result ≡ (is_vector_name (name_in (field_of node.now)) && are_all_null (cells_of cells.now)) }
+    ensures { result ≡ (is_vector_name (field_name (field_of node.now)) && are_all_null (cells_of cells.now)) }
 {
     node.name.as_str() == "deletionVector" && all_null(cells)
 }
@@ -336,7 +336,7 @@ fn slot_of(alloc: Global, cell: &Cell) -> Result<Option<Option<Text>>, AllocErro
 
 /// The key of an entry.
 fn key_of(cell: &Cell) -> &str
-    ensures { result.now ≡ key_in (datum_of cell.now) }
+    ensures { result.now ≡ entry_key (datum_of cell.now) }
 {
     match cell {
         Cell::Chars(text) => text,
@@ -422,7 +422,7 @@ fn with_field(
     node: &Node,
     depth: Depth,
 ) -> Result<Slots, AllocError>
-    ensures { IfOk result (λ m. map.entries m ≡ after_field (name_in (field_of node.now))
+    ensures { IfOk result (λ m. map.entries m ≡ after_group_field (field_name (field_of node.now))
         (present (Some (json_in (turned depth (field_of node.now) (datum_of cell.now)) (field_of node.now)))) (map.entries slots)) }
 {
     match part_of(cell, node, depth) {

@@ -3,7 +3,7 @@
 ghost use Rattle.std.specs.Prelude.{◌≡◌, [], ◌∷◌, ◌++◌, map, IfOk};
 ghost use Rattle.dk_pqmodel.specs.NodeView.{field_of, fields_of};
 ghost use Rattle.dk_pqmodel.specs.SchemaView.{fields_in};
-ghost use Rattle.dk_lawful.specs.CheckpointSchema.{txn_group, add_group, vector_group, remove_group, format_group, metadata_group, keyed_group, protocol_group, domain_group, checkpoint_group, sidecar_group, groups, written_fields, read_fields};
+ghost use Rattle.dk_lawful.specs.CheckpointSchema.{txn_group, add_group, vector_group, remove_group, format_group, metadata_group, keyed_group, protocol_group, domain_group, checkpoint_group, sidecar_group, action_groups, written_fields, read_fields};
 
 use crate::kinds::{Holds, and, and_group};
 use dk_model::ActionKey;
@@ -122,7 +122,7 @@ fn sidecar_nodes(alloc: Global) -> Result<Vec<Node>, AllocError>
 
 /// The groups, one for each key of an action that checkpoints have, by the fields of an add.
 fn groups_with(alloc: Global, adds: Vec<Node>) -> Result<Vec<Node>, AllocError>
-    ensures { IfOk result (λ v. fields_of v.items ≡ groups (map field_of adds.items)) }
+    ensures { IfOk result (λ v. fields_of v.items ≡ action_groups (map field_of adds.items)) }
 {
     let nodes = Vec::new(alloc);
     let nodes = and_kind(alloc, nodes, ActionKey::Txn, txn_nodes(alloc)?)?;

@@ -2,7 +2,7 @@
 ghost use Rattle.std.specs.Prelude.{◌≡◌, ◌==◌, [], find, option_map, if◌then◌else◌};
 ghost use Rattle.std.specs.Option.{option_copied};
 ghost use Rattle.dk_model.specs.State.{steps};
-ghost use Rattle.dk_features.specs.InForce.{listed};
+ghost use Rattle.dk_features.specs.InForce.{listed_features};
 ghost use Rattle.dk_model.specs.NameSets.{is_one_of};
 ghost use Rattle.dk_lawful.specs.SoFar.{awaited};
 ghost use Rattle.dk_lawful.specs.Written.{of_commits};
@@ -33,7 +33,7 @@ fn first_awaited(names: &[Text]) -> Option<&Text>
 
 /// The names of a list that may be absent.
 fn listed(names: &Option<Names>) -> &[Text]
-    ensures { result.now ≡ listed names.now }
+    ensures { result.now ≡ listed_features names.now }
 {
     match names {
         None => &[],
@@ -43,7 +43,7 @@ fn listed(names: &Option<Names>) -> &[Text]
 
 /// The first of them that readers are asked for, where the list counts.
 fn awaited_of_readers(protocol: &Protocol) -> Option<&Text>
-    ensures { option_map (λ text. text.now) result ≡ find (is_one_of of_commits) (if protocol.now.min_reader == 3 then listed protocol.now.reader_features else []) }
+    ensures { option_map (λ text. text.now) result ≡ find (is_one_of of_commits) (if protocol.now.min_reader == 3 then listed_features protocol.now.reader_features else []) }
 {
     if protocol.min_reader == 3 {
         return first_awaited(listed(&protocol.reader_features));
@@ -53,7 +53,7 @@ fn awaited_of_readers(protocol: &Protocol) -> Option<&Text>
 
 /// The first of them that writers are asked for, where the list counts.
 fn awaited_of_writers(protocol: &Protocol) -> Option<&Text>
-    ensures { option_map (λ text. text.now) result ≡ find (is_one_of of_commits) (if protocol.now.min_writer == 7 then listed protocol.now.writer_features else []) }
+    ensures { option_map (λ text. text.now) result ≡ find (is_one_of of_commits) (if protocol.now.min_writer == 7 then listed_features protocol.now.writer_features else []) }
 {
     if protocol.min_writer == 7 {
         return first_awaited(listed(&protocol.writer_features));

@@ -19,7 +19,7 @@ use Rattle.dk_listing.specs.Presence.{lists, ratified_name}
 use Rattle.dk_listing.proofs.Standing.{lists_commit, lists_staged_commit, names_standing}
 use Rattle.dk_segment.specs.declared.commit_index.CommitIndex.{CommitIndex}
 use Rattle.dk_segment.specs.Chosen.{chosen, unless_gap}
-use Rattle.dk_segment.specs.CommitIndex.{IsIndexOf, has_place, has_name}
+use Rattle.dk_segment.specs.CommitIndex.{IsIndexOf, has_place, name_ratified_for}
 use Rattle.dk_segment.specs.Walked.{walked, unless_absent}
 
 -- ---- the segment of what was walked
@@ -42,22 +42,22 @@ chosen_walked present ratified version choice = by (gap_from (commit_place prese
 -- ---- what is known of a listing
 
 pub indexed_place : (commits : CommitIndex) (listing : Catalogued) → IsIndexOf commits listing → (staged_first : Bool) (version : ℕ)
-    → commit_place (has_place commits) (has_name commits) staged_first version ≡ commit_place (lists listing) (ratified_name listing) staged_first version
+    → commit_place (has_place commits) (name_ratified_for commits) staged_first version ≡ commit_place (lists listing) (ratified_name listing) staged_first version
 indexed_place commits listing indexed staged_first version = ap₂ (preferred staged_first) staged published
   where
     published : published_at (has_place commits) version ≡ published_at (lists listing) version
     published = ap (λ (there : Bool). if there then Some (Commit_at version) else None) (indexed.published version)
 
-    staged : staged_at (has_place commits) (has_name commits) version ≡ staged_at (lists listing) (ratified_name listing) version
+    staged : staged_at (has_place commits) (name_ratified_for commits) version ≡ staged_at (lists listing) (ratified_name listing) version
     staged =
         let same : (λ (id : ℕ). has_place commits (Staged version id)) ≡ (λ (id : ℕ). lists listing (Staged version id)) = λ i id. indexed.staged version id i in
         ap₂ (λ (there : ℕ → Bool) (name : Option (List ℕ)). option_and_then (λ id. if there id then Some (Staged version id) else None) (option_and_then (id_named version) name)) same (indexed.ratified version)
 
 -- what is walked by what is known of a listing is walked by the listing
 pub indexed_walk : (commits : CommitIndex) (listing : Catalogued) → IsIndexOf commits listing → (staged_first : Bool) (first count : ℕ)
-    → walked (commit_place (has_place commits) (has_name commits) staged_first) first count ≡ walked (commit_place (lists listing) (ratified_name listing) staged_first) first count
+    → walked (commit_place (has_place commits) (name_ratified_for commits) staged_first) first count ≡ walked (commit_place (lists listing) (ratified_name listing) staged_first) first count
 indexed_walk commits listing indexed staged_first first count =
-    let same : commit_place (has_place commits) (has_name commits) staged_first ≡ commit_place (lists listing) (ratified_name listing) staged_first = λ i version. indexed_place commits listing indexed staged_first version i in
+    let same : commit_place (has_place commits) (name_ratified_for commits) staged_first ≡ commit_place (lists listing) (ratified_name listing) staged_first = λ i version. indexed_place commits listing indexed staged_first version i in
     ap (λ (place_at : ℕ → Option Place). walked place_at first count) same
 
 -- ---- two views of one log

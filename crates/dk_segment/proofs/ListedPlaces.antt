@@ -8,14 +8,14 @@ use Rattle.dk_paths.specs.declared.log_name.LogName.TheVariants as names
 use Rattle.dk_paths.specs.Places.{Place, Commit_at, Classic, Part, V2, Compacted, Hint, Sidecar, Staged, Other}
 use Rattle.dk_lawful.specs.declared.segment.CheckpointRef.{CheckpointRef}
 use Rattle.dk_lawful.specs.declared.segment.Checkpoints.{Checkpoints}
-use Rattle.dk_lawful.specs.Segments.{is_same_place, is_among, has_parts, complete_at, is_allowed, parts_at, id_at, by_parts, classic_ref, checkpoint_at, base_of, reached_by, furthest, greatest, least}
+use Rattle.dk_lawful.specs.Segments.{is_same_place, is_among, has_parts, complete_at, is_allowed, parts_at, checkpoint_id_at, by_parts, classic_ref, checkpoint_at, base_of, reached_by, furthest, greatest, least}
 use Rattle.dk_listing.specs.declared.catalogued.Catalogued.{Catalogued}
 use Rattle.dk_listing.specs.declared.named.Named.{Named}
 use Rattle.dk_listing.specs.declared.named.Staged as entries
 use Rattle.dk_listing.specs.Newest.{all_up_to, is_part, lists_part, complete_version, complete_checkpoints, newest_by}
 use Rattle.dk_listing.specs.Presence.{is_at, lists, lists_in_log, listed_places, named_place}
 use Rattle.dk_listing.proofs.Standing.{any_map, any_same, any_filter_map, passes}
-use Rattle.dk_segment.specs.Places.{if_allowed, allowed_version, parts_of, id_of_name, earliest_by, taken_at, base_listed, reached_by_name, reached_in}
+use Rattle.dk_segment.specs.Places.{if_choice_allows, allowed_version, parts_of_checkpoint, id_of_name, earliest_by, taken_at, base_listed, reached_by_name, reached_in}
 use Rattle.dk_segment.proofs.Best.{newest_is_greatest, newest_of_complete, earliest_is_least, earliest_of_complete, of_places}
 
 -- ---- one place
@@ -130,11 +130,11 @@ module _ (listing : Catalogued) where
   abbrev here : Place → Bool
   here = lists listing
 
-  allowed_name : (allowed : Checkpoints) (asked : ℕ) (name : LogName) → option_and_then (λ place. if_allowed allowed asked (complete_at here place)) (named_place name) ≡ if_begins has (allowed_version allowed asked) name
+  allowed_name : (allowed : Checkpoints) (asked : ℕ) (name : LogName) → option_and_then (λ place. if_choice_allows allowed asked (complete_at here place)) (named_place name) ≡ if_begins has (allowed_version allowed asked) name
   allowed_name allowed asked (names.Part v part parts) =
-      ap (λ (b : Bool). if_allowed allowed asked (if part == 1 && b then Some v else None)) (parts_listed listing v parts parts) ∙ by (part == 1 && all_up_to (has v parts) parts)
+      ap (λ (b : Bool). if_choice_allows allowed asked (if part == 1 && b then Some v else None)) (parts_listed listing v parts parts) ∙ by (part == 1 && all_up_to (has v parts) parts)
     where
-      by : (all : Bool) → if_allowed allowed asked (if all then Some v else None) ≡ (if is_some (if all then Some v else None) then if_allowed allowed asked (Some v) else None)
+      by : (all : Bool) → if_choice_allows allowed asked (if all then Some v else None) ≡ (if is_some (if all then Some v else None) then if_choice_allows allowed asked (Some v) else None)
       by true = refl
       by false = refl
   allowed_name allowed asked (names.Commit v) = refl
@@ -149,10 +149,10 @@ module _ (listing : Catalogued) where
   version_listed allowed asked =
       newest_of_complete has (allowed_version allowed asked) listing.log.items
       ∙ newest_is_greatest (λ (n : Named). if_begins has (allowed_version allowed asked) n.name) listing.log.items
-      ∙ ap greatest (sym (of_places (λ place. if_allowed allowed asked (complete_at here place)) (if_begins has (allowed_version allowed asked)) (allowed_name allowed asked) (λ v i. refl) listing.log.items listing.staged.items))
-      ∙ ap greatest (sym (filter_found (is_allowed allowed asked) (complete_at here) (if_allowed allowed asked) refl (λ n. refl) (listed_places listing)))
+      ∙ ap greatest (sym (of_places (λ place. if_choice_allows allowed asked (complete_at here place)) (if_begins has (allowed_version allowed asked)) (allowed_name allowed asked) (λ v i. refl) listing.log.items listing.staged.items))
+      ∙ ap greatest (sym (filter_found (is_allowed allowed asked) (complete_at here) (if_choice_allows allowed asked) refl (λ n. refl) (listed_places listing)))
 
-  parts_name : (version : ℕ) (name : LogName) → option_and_then (parts_at here version) (named_place name) ≡ if_begins has (parts_of version) name
+  parts_name : (version : ℕ) (name : LogName) → option_and_then (parts_at here version) (named_place name) ≡ if_begins has (parts_of_checkpoint version) name
   parts_name version (names.Part v part parts) =
       ap (λ (b : Bool). if v == version && (part == 1 && b) then Some parts else None) (parts_listed listing v parts parts) ∙ by (v == version) (part == 1 && all_up_to (has v parts) parts)
     where
@@ -169,13 +169,13 @@ module _ (listing : Catalogued) where
   parts_name version names.Hint = refl
   parts_name version names.Other = refl
 
-  most_listed : (version : ℕ) → newest_by (parts_of version) (complete_checkpoints listing.log.items) ≡ greatest (filter_map (parts_at here version) (listed_places listing))
+  most_listed : (version : ℕ) → newest_by (parts_of_checkpoint version) (complete_checkpoints listing.log.items) ≡ greatest (filter_map (parts_at here version) (listed_places listing))
   most_listed version =
-      newest_of_complete has (parts_of version) listing.log.items
-      ∙ newest_is_greatest (λ (n : Named). if_begins has (parts_of version) n.name) listing.log.items
-      ∙ ap greatest (sym (of_places (parts_at here version) (if_begins has (parts_of version)) (parts_name version) (λ v i. refl) listing.log.items listing.staged.items))
+      newest_of_complete has (parts_of_checkpoint version) listing.log.items
+      ∙ newest_is_greatest (λ (n : Named). if_begins has (parts_of_checkpoint version) n.name) listing.log.items
+      ∙ ap greatest (sym (of_places (parts_at here version) (if_begins has (parts_of_checkpoint version)) (parts_name version) (λ v i. refl) listing.log.items listing.staged.items))
 
-  id_name : (version : ℕ) (name : LogName) → option_and_then (id_at version) (named_place name) ≡ if_begins has (id_of_name version) name
+  id_name : (version : ℕ) (name : LogName) → option_and_then (checkpoint_id_at version) (named_place name) ≡ if_begins has (id_of_name version) name
   id_name version (names.Part v part parts) = by (part == 1 && all_up_to (has v parts) parts)
     where
       by : (all : Bool) → ◌≡◌ {A = Option ℕ} None (if is_some (if all then Some v else None) then None else None)
@@ -189,17 +189,17 @@ module _ (listing : Catalogued) where
   id_name version names.Hint = refl
   id_name version names.Other = refl
 
-  least_listed : (version : ℕ) → earliest_by (id_of_name version) (complete_checkpoints listing.log.items) ≡ least (filter_map (id_at version) (listed_places listing))
+  least_listed : (version : ℕ) → earliest_by (id_of_name version) (complete_checkpoints listing.log.items) ≡ least (filter_map (checkpoint_id_at version) (listed_places listing))
   least_listed version =
       earliest_of_complete has (id_of_name version) listing.log.items
       ∙ earliest_is_least (λ (n : Named). if_begins has (id_of_name version) n.name) listing.log.items
-      ∙ ap least (sym (of_places (id_at version) (if_begins has (id_of_name version)) (id_name version) (λ v i. refl) listing.log.items listing.staged.items))
+      ∙ ap least (sym (of_places (checkpoint_id_at version) (if_begins has (id_of_name version)) (id_name version) (λ v i. refl) listing.log.items listing.staged.items))
 
   -- the checkpoint at a version, where places are told by any test
   abbrev at_by : (Place → Bool) → ℕ → Option CheckpointRef
   at_by present version =
       if present (Classic version) then Some (classic_ref version)
-      else by_parts present version (greatest (filter_map (parts_at present version) (listed_places listing))) (least (filter_map (id_at version) (listed_places listing)))
+      else by_parts present version (greatest (filter_map (parts_at present version) (listed_places listing))) (least (filter_map (checkpoint_id_at version) (listed_places listing)))
 
   taken_is : (version : ℕ) → taken_at listing version ≡ checkpoint_at (listed_places listing) version
   taken_is version =

@@ -14,7 +14,7 @@ use Rattle.dk_lawful.specs.declared.segment.Checkpoints.{Checkpoints}
 use Rattle.dk_lawful.specs.declared.segment.Checkpoints.TheVariants.{No, Newest, AtMost}
 use Rattle.dk_listing.specs.declared.named.Named.{Named}
 use Rattle.dk_listing.specs.Newest.{later, newest_by, is_rising, checkpoint_version}
-use Rattle.dk_segment.specs.Places.{if_allowed, allowed_version, compacted_of, reached_by_name, HasReaches, WidensReach, AddsReach, AreReached}
+use Rattle.dk_segment.specs.Places.{if_choice_allows, allowed_version, compacted_of, reached_by_name, HasReaches, WidensReach, AddsReach, AreReached}
 use Rattle.dk_segment.proofs.Best.{later_right, newest_more, newest_has}
 use Rattle.dk_segment.proofs.Sets.{one_same}
 
@@ -98,7 +98,7 @@ are_reached reaches log asked rising has = λ version last is.
 
 -- ---- the version of the base
 
-one_within : (allowed : Checkpoints) (asked : ℕ) (found : Option ℕ) → IfSome (if_allowed allowed asked found) (λ v. v ≤ asked)
+one_within : (allowed : Checkpoints) (asked : ℕ) (found : Option ℕ) → IfSome (if_choice_allows allowed asked found) (λ v. v ≤ asked)
 one_within allowed asked None = tt
 one_within No asked (Some version) = tt
 one_within Newest asked (Some version) = by (nat_le version asked) refl

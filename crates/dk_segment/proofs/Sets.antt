@@ -18,7 +18,7 @@ use Rattle.dk_store.specs.declared.event.Ratification.{Ratification}
 use Rattle.dk_store.specs.Views.{ratification}
 use Rattle.dk_listing.specs.declared.named.Staged as entries
 use Rattle.dk_listing.specs.Presence.{lists_staged, name_at}
-use Rattle.dk_segment.specs.CommitIndex.{staged_cmp, HasStaged, HasNames, name_in}
+use Rattle.dk_segment.specs.CommitIndex.{staged_cmp, HasStagedCommits, HasRatifiedNames, name_for_version}
 
 pub one_same : (x w : ℕ) → is_eq (nat_cmp x w) ≡ (x == w)
 one_same x w = grind (arith, nat_tests)
@@ -39,7 +39,7 @@ pair_same : (v i w id : ℕ) → is_eq (staged_cmp (v, i) (w, id)) ≡ (v == w &
 pair_same v i w id = sym (tied_then (nat_cmp v w) (nat_cmp i id)) ∙ ap₂ (λ (a b : Bool). a && b) (one_same v w) (one_same i id)
 
 pub staged_more : (old new : BTreeSet (ℕ × ℕ)) (staged : List entries.Staged) (place : ℕ) (commit : entries.Staged) → place < length staged → commit ≡ get_or staged place commit
-    → HasStaged old (take place staged) → set.Updates staged_cmp old new (commit.version, commit.id) true → HasStaged new (take (place + 1) staged)
+    → HasStagedCommits old (take place staged) → set.Updates staged_cmp old new (commit.version, commit.id) true → HasStagedCommits new (take (place + 1) staged)
 staged_more old new staged place commit lt is has updates = λ w id.
     let test : Bool = commit.version == w && commit.id == id in
     let now : contains staged_cmp new (w, id) ≡ cond test true (contains staged_cmp old (w, id)) =
@@ -80,22 +80,22 @@ some_now (Some name) some = refl
 
 -- one more version that stands ratified
 pub names_more : (old new : BTreeMap ℕ (Bor (List ℕ))) (rs : List Ratification) (place : ℕ) (r : Ratification) (name : Bor (List ℕ)) → place < length rs → r ≡ get_or rs place r
-    → name.now ≡ string_bytes r.name → get nat_cmp old r.version ≡ None → HasNames old (take place rs) → tree.Updates nat_cmp old new r.version (Some name) → HasNames new (take (place + 1) rs)
+    → name.now ≡ string_bytes r.name → get nat_cmp old r.version ≡ None → HasRatifiedNames old (take place rs) → tree.Updates nat_cmp old new r.version (Some name) → HasRatifiedNames new (take (place + 1) rs)
 names_more old new rs place r name lt is read absent has updates = λ w.
     let before : Option (List ℕ) = name_at (map ratification (take place rs)) w in
     let now : get nat_cmp new w ≡ cond (r.version == w) (Some name) (get nat_cmp old w) =
     updates.0 w ∙ ap (λ (t : Bool). cond t (Some name) (get nat_cmp old w)) (one_same r.version w) in
     elim (eqb_tells r.version w) [
       | inl t ↦
-          let here : name_in new w ≡ Some (string_bytes r.name) =
+          let here : name_for_version new w ≡ Some (string_bytes r.name) =
           ap (λ (o : Option (Bor (List ℕ))). option_map (λ (n : Bor (List ℕ)). n.now) o) (now ∙ ap (λ (b : Bool). cond b (Some name) (get nat_cmp old w)) t.0) ∙ ap Some read in
           let none : before ≡ None =
-          sym (has w) ∙ ap (λ (v : ℕ). name_in old v) (sym t.1) ∙ ap (λ (o : Option (Bor (List ℕ))). option_map (λ (n : Bor (List ℕ)). n.now) o) absent in
+          sym (has w) ∙ ap (λ (v : ℕ). name_for_version old v) (sym t.1) ∙ ap (λ (o : Option (Bor (List ℕ))). option_map (λ (n : Bor (List ℕ)). n.now) o) absent in
           here ∙ none_first before (Some (string_bytes r.name)) none
           ∙ ap (λ (b : Bool). option_or before (cond b (Some (string_bytes r.name)) None)) (sym t.0)
           ∙ sym (name_more rs place r lt is w)
       | inr f ↦
-          let other : name_in new w ≡ before =
+          let other : name_for_version new w ≡ before =
           ap (λ (o : Option (Bor (List ℕ))). option_map (λ (n : Bor (List ℕ)). n.now) o) (now ∙ ap (λ (b : Bool). cond b (Some name) (get nat_cmp old w)) f.0) ∙ has w in
           other ∙ none_last before
           ∙ ap (λ (b : Bool). option_or before (cond b (Some (string_bytes r.name)) None)) (sym f.0)
@@ -104,13 +104,13 @@ names_more old new rs place r name lt is read absent has updates = λ w.
 
 -- one more of a version that stood so before
 pub names_same : (names : BTreeMap ℕ (Bor (List ℕ))) (rs : List Ratification) (place : ℕ) (r : Ratification) → place < length rs → r ≡ get_or rs place r
-    → is_some (get nat_cmp names r.version) ≡ true → HasNames names (take place rs) → HasNames names (take (place + 1) rs)
+    → is_some (get nat_cmp names r.version) ≡ true → HasRatifiedNames names (take place rs) → HasRatifiedNames names (take (place + 1) rs)
 names_same names rs place r lt is there has = λ w.
     let before : Option (List ℕ) = name_at (map ratification (take place rs)) w in
     elim (eqb_tells r.version w) [
       | inl t ↦
           let some : is_some before ≡ true =
-          ap (λ (o : Option (List ℕ)). is_some o) (sym (has w)) ∙ ap (λ (v : ℕ). is_some (name_in names v)) (sym t.1) ∙ some_now (get nat_cmp names r.version) there in
+          ap (λ (o : Option (List ℕ)). is_some o) (sym (has w)) ∙ ap (λ (v : ℕ). is_some (name_for_version names v)) (sym t.1) ∙ some_now (get nat_cmp names r.version) there in
           has w ∙ some_first before (cond (r.version == w) (Some (string_bytes r.name)) None) some ∙ sym (name_more rs place r lt is w)
       | inr f ↦
           has w ∙ none_last before

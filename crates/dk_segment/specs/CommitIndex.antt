@@ -23,16 +23,16 @@ abbrev pub HasCommits : BTreeSet ℕ → List Named → Type 0
 HasCommits set log = (version : ℕ) → contains nat_cmp set version ≡ lists_in_log log (Commit_at version)
 
 -- the set has the staged commits that are listed
-abbrev pub HasStaged : BTreeSet (ℕ × ℕ) → List entries.Staged → Type 0
-HasStaged set staged = (version id : ℕ) → contains staged_cmp set (version, id) ≡ lists_staged staged version id
+abbrev pub HasStagedCommits : BTreeSet (ℕ × ℕ) → List entries.Staged → Type 0
+HasStagedCommits set staged = (version id : ℕ) → contains staged_cmp set (version, id) ≡ lists_staged staged version id
 
 -- the name that a map has at a version
-abbrev pub name_in : BTreeMap ℕ (Bor (List ℕ)) → ℕ → Option (List ℕ)
-name_in names version = option_map (λ name. name.now) (get nat_cmp names version)
+abbrev pub name_for_version : BTreeMap ℕ (Bor (List ℕ)) → ℕ → Option (List ℕ)
+name_for_version names version = option_map (λ name. name.now) (get nat_cmp names version)
 
 -- the map has the name under which each version stands ratified
-abbrev pub HasNames : BTreeMap ℕ (Bor (List ℕ)) → List Ratification → Type 0
-HasNames names ratified = (version : ℕ) → name_in names version ≡ name_at (map ratification ratified) version
+abbrev pub HasRatifiedNames : BTreeMap ℕ (Bor (List ℕ)) → List Ratification → Type 0
+HasRatifiedNames names ratified = (version : ℕ) → name_for_version names version ≡ name_at (map ratification ratified) version
 
 -- the places that are listed with an object
 abbrev pub has_place : CommitIndex → Place → Bool
@@ -40,11 +40,11 @@ has_place commits (Commit_at version) = contains nat_cmp commits.published versi
 has_place commits (Staged version id) = contains staged_cmp commits.staged (version, id)
 has_place commits _ = false
 
-abbrev pub has_name : CommitIndex → ℕ → Option (List ℕ)
-has_name commits version = name_in commits.ratified version
+abbrev pub name_ratified_for : CommitIndex → ℕ → Option (List ℕ)
+name_ratified_for commits version = name_for_version commits.ratified version
 
 -- all of it is that of the listing
 pub record IsIndexOf (commits : CommitIndex) (listing : Catalogued) : Type 0 where
   pub published : HasCommits commits.published listing.log.items
-  pub staged : HasStaged commits.staged listing.staged.items
-  pub ratified : HasNames commits.ratified listing.ratified.items
+  pub staged : HasStagedCommits commits.staged listing.staged.items
+  pub ratified : HasRatifiedNames commits.ratified listing.ratified.items

@@ -25,18 +25,18 @@ reference (bases.Parts version parts) = parts_ref version parts
 reference (bases.V2 version id json) = v2_ref version id json
 
 -- a version, where the choice allows it
-abbrev pub if_allowed : Checkpoints → ℕ → Option ℕ → Option ℕ
-if_allowed allowed asked None = None
-if_allowed allowed asked (Some version) = if is_allowed allowed asked version then Some version else None
+abbrev pub if_choice_allows : Checkpoints → ℕ → Option ℕ → Option ℕ
+if_choice_allows allowed asked None = None
+if_choice_allows allowed asked (Some version) = if is_allowed allowed asked version then Some version else None
 
 -- the version of the checkpoint that a name begins, where the choice allows it
 abbrev pub allowed_version : Checkpoints → ℕ → LogName → Option ℕ
-allowed_version allowed asked name = if_allowed allowed asked (checkpoint_version name)
+allowed_version allowed asked name = if_choice_allows allowed asked (checkpoint_version name)
 
 -- in how many parts a checkpoint of this version is that a name begins
-abbrev pub parts_of : ℕ → LogName → Option ℕ
-parts_of version (names.Part v part parts) = if v == version then Some parts else None
-parts_of version _ = None
+abbrev pub parts_of_checkpoint : ℕ → LogName → Option ℕ
+parts_of_checkpoint version (names.Part v part parts) = if v == version then Some parts else None
+parts_of_checkpoint version _ = None
 
 -- the UUID of a checkpoint of the form V2 of this version
 abbrev pub id_of_name : ℕ → LogName → Option ℕ
@@ -57,7 +57,7 @@ earliest_by number xs = fold (λ best x. earlier best (number x)) None xs
 abbrev pub taken_at : Catalogued → ℕ → Option CheckpointRef
 taken_at listing version =
     if lists listing (Classic version) then Some (classic_ref version)
-    else by_parts (lists listing) version (newest_by (parts_of version) (complete_checkpoints listing.log.items)) (earliest_by (id_of_name version) (complete_checkpoints listing.log.items))
+    else by_parts (lists listing) version (newest_by (parts_of_checkpoint version) (complete_checkpoints listing.log.items)) (earliest_by (id_of_name version) (complete_checkpoints listing.log.items))
 
 -- the one that is chosen
 abbrev pub base_listed : Catalogued → Checkpoints → ℕ → Option CheckpointRef

@@ -13,7 +13,7 @@ use Rattle.dk_segment.specs.declared.commit_index.CommitObject.{CommitObject}
 use Rattle.dk_segment.specs.declared.commit_index.CommitObject.TheVariants as objects
 use Rattle.dk_segment.specs.declared.stepping.Found.{Found}
 use Rattle.dk_segment.specs.declared.stepping.Found.TheVariants as founds
-use Rattle.dk_segment.specs.CommitIndex.{has_place, has_name}
+use Rattle.dk_segment.specs.CommitIndex.{has_place, name_ratified_for}
 
 -- the place of the object that a version is read from
 abbrev pub object_place : ℕ → CommitObject → Place
@@ -42,7 +42,7 @@ CanBeWritten version (founds.Compacted last) = (version < last) × (last < 2 ^ 6
 
 -- what is read for each version, by what is known of a listing
 abbrev pub steps_known : CommitIndex → BTreeMap ℕ ℕ → Bool → ℕ → Option Step
-steps_known commits reaches staged_first version = step_at (get nat_cmp reaches) (commit_place (has_place commits) (has_name commits) staged_first) version
+steps_known commits reaches staged_first version = step_at (get nat_cmp reaches) (commit_place (has_place commits) (name_ratified_for commits) staged_first) version
 
 -- the steps from a version on up to the asked one, or the first version for which there is none
 abbrev pub stepped : (ℕ → Option Step) → ℕ → ℕ → Result (List Step) Refusal

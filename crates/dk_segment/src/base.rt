@@ -4,7 +4,7 @@ ghost use Rattle.dk_paths.specs.Places.{Classic, V2, place_path};
 ghost use Rattle.dk_lawful.specs.Segments.{begins_at, is_allowed, part_paths, version_of};
 ghost use Rattle.dk_listing.specs.Newest.{later, newest_by};
 ghost use Rattle.dk_listing.specs.Presence.{is_at, lists_in_log};
-ghost use Rattle.dk_segment.specs.Places.{allowed_version, base_listed, earlier, earliest_by, id_of_name, parts_of, reference, taken_at};
+ghost use Rattle.dk_segment.specs.Places.{allowed_version, base_listed, earlier, earliest_by, id_of_name, parts_of_checkpoint, reference, taken_at};
 
 use dk_lawful::{CheckpointRef, Checkpoints};
 use dk_listing::{Catalogued, Named, checkpoint_version, later};
@@ -76,7 +76,7 @@ fn base_version(names: &[LogName], allowed: Checkpoints, asked: u64) -> Option<u
 }
 
 fn parts_of(name: &LogName, version: u64) -> Option<u32>
-    ensures { result ≡ parts_of version name.now }
+    ensures { result ≡ parts_of_checkpoint version name.now }
 {
     match *name {
         LogName::Part {
@@ -101,7 +101,7 @@ fn more(one: Option<u32>, other: Option<u32>) -> Option<u32>
 
 /// In how many parts a complete checkpoint of this version is at most.
 fn most_parts(names: &[LogName], version: u64) -> Option<u32>
-    ensures { result ≡ newest_by (parts_of version) names.now }
+    ensures { result ≡ newest_by (parts_of_checkpoint version) names.now }
 {
     let mut best = None;
     for name in names {

@@ -1,6 +1,6 @@
 //! The choice of a segment.
 ghost use Rattle.std.specs.Prelude.{◌<◌, ◌≤◌, ◌+◌, ◌^◌, IfErr, IfSome, false, option_map};
-ghost use Rattle.dk_engine.specs.Answers.{Gives};
+ghost use Rattle.dk_engine.specs.Answers.{AnswersMeant};
 ghost use Rattle.dk_listing.specs.Presence.{listed_places, lists, ratified_name};
 ghost use Rattle.dk_lawful.specs.Segments.{begins_at, commit_place, steps_of, version_of};
 ghost use Rattle.dk_segment.specs.Chosen.{ChooseRefuses, chosen, chosen_segment};
@@ -27,7 +27,7 @@ fn steps_after(
 ) -> Result<Vec<Step>, Refusal>
     requires small { version < 2 ^ 63 }
     requires within { IfSome base (λ b. version_of (reference b) ≤ version) }
-    ensures means { Gives (λ steps. steps.items) result (stepped (steps_of (listed_places listing.now) (ratified_name listing.now) choice.now version) version (begins_at (option_map reference base))) }
+    ensures means { AnswersMeant (λ steps. steps.items) result (stepped (steps_of (listed_places listing.now) (ratified_name listing.now) choice.now version) version (begins_at (option_map reference base))) }
     ensures refusals { IfErr result ChooseRefuses }
 {
     let commits = index_commits(alloc, listing)?;
@@ -61,7 +61,7 @@ pub fn choose(
     choice: &Choice,
 ) -> Result<Segment, Refusal>
     requires { version < 2 ^ 63 }
-    ensures means { Gives (λ segment. segment) result (chosen_segment (listed_places listing.now) (ratified_name listing.now) version choice.now) }
+    ensures means { AnswersMeant (λ segment. segment) result (chosen_segment (listed_places listing.now) (ratified_name listing.now) version choice.now) }
     ensures refusals { IfErr result ChooseRefuses }
 {
     let base = find_base(listing, choice.checkpoints, version);
@@ -83,7 +83,7 @@ pub fn choose_commits(
     choice: &Choice,
 ) -> Result<Segment, Refusal>
     requires { version < 2 ^ 63 }
-    ensures means { Gives (λ segment. segment) result (chosen (lists listing.now) (ratified_name listing.now) version choice.now) }
+    ensures means { AnswersMeant (λ segment. segment) result (chosen (lists listing.now) (ratified_name listing.now) version choice.now) }
     ensures refusals { IfErr result ChooseRefuses }
 {
     let plain = Choice {
@@ -105,7 +105,7 @@ pub fn find_commits(
     count: u64,
 ) -> Result<Vec<Step>, Refusal>
     requires { first + count ≤ 2 ^ 63 }
-    ensures means { Gives (λ steps. steps.items) result (walked (commit_place (lists listing.now) (ratified_name listing.now) false) first count) }
+    ensures means { AnswersMeant (λ steps. steps.items) result (walked (commit_place (lists listing.now) (ratified_name listing.now) false) first count) }
     ensures refusals { IfErr result ChooseRefuses }
 {
     let commits = index_commits(alloc, listing)?;

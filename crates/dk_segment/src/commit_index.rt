@@ -1,7 +1,7 @@
 //! The commits of a listing, for look-ups by version.
 ghost use Rattle.std.specs.Prelude.{◌≡◌, IfOk, option_map};
 ghost use Rattle.dk_lawful.specs.Segments.{commit_place, published_at, staged_at};
-ghost use Rattle.dk_segment.specs.CommitIndex.{HasCommits, HasNames, HasStaged, IsIndexOf, has_name, has_place};
+ghost use Rattle.dk_segment.specs.CommitIndex.{HasCommits, HasRatifiedNames, HasStagedCommits, IsIndexOf, name_ratified_for, has_place};
 ghost use Rattle.dk_segment.specs.Walked.{object_place};
 
 use dk_listing::{Catalogued, Named, Staged};
@@ -41,7 +41,7 @@ fn published_versions(alloc: Global, log: &[Named]) -> Result<BTreeSet<u64>, All
 }
 
 fn staged_commits(alloc: Global, staged: &[Staged]) -> Result<BTreeSet<(u64, u128)>, AllocError>
-    ensures { IfOk result (λ set. HasStaged set staged.now) }
+    ensures { IfOk result (λ set. HasStagedCommits set staged.now) }
 {
     let mut set = BTreeSet::new(alloc);
     for commit in staged {
@@ -55,7 +55,7 @@ fn ratified_names<'a>(
     alloc: Global,
     ratified: &'a [Ratification],
 ) -> Result<BTreeMap<u64, &'a str>, AllocError>
-    ensures { IfOk result (λ names. HasNames names ratified.now) }
+    ensures { IfOk result (λ names. HasRatifiedNames names ratified.now) }
 {
     let mut names = BTreeMap::new(alloc);
     for ratification in ratified {
@@ -92,7 +92,7 @@ fn published_object(commits: &CommitIndex<'_>, version: u64) -> Option<CommitObj
 
 /// The staged commit that stands ratified for a version, if it is listed.
 fn staged_object(commits: &CommitIndex<'_>, version: u64) -> Option<CommitObject>
-    ensures { option_map (object_place version) result ≡ staged_at (has_place commits.now) (has_name commits.now) version }
+    ensures { option_map (object_place version) result ≡ staged_at (has_place commits.now) (name_ratified_for commits.now) version }
 {
     let Some(name) = commits.ratified.get(&version) else {
         return None;
@@ -113,7 +113,7 @@ pub(crate) fn find_object(
     version: u64,
     staged_first: bool,
 ) -> Option<CommitObject>
-    ensures { option_map (object_place version) result ≡ commit_place (has_place commits.now) (has_name commits.now) staged_first version }
+    ensures { option_map (object_place version) result ≡ commit_place (has_place commits.now) (name_ratified_for commits.now) staged_first version }
 {
     let published = published_object(commits, version);
     let staged = staged_object(commits, version);

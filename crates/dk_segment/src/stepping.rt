@@ -2,7 +2,7 @@
 ghost use Rattle.std.specs.Prelude.{◌≡◌, ◌<◌, ◌≤◌, ◌+◌, ◌^◌, IfErr, IfOk, IfSome, option_map};
 ghost use Rattle.dk_paths.specs.Places.{Compacted, place_path};
 ghost use Rattle.dk_lawful.specs.Segments.{after_step};
-ghost use Rattle.dk_engine.specs.Answers.{Gives};
+ghost use Rattle.dk_engine.specs.Answers.{AnswersMeant};
 ghost use Rattle.dk_segment.specs.Chosen.{ChooseRefuses};
 ghost use Rattle.dk_segment.specs.Places.{AreReached};
 ghost use Rattle.dk_segment.specs.Walked.{CanBeWritten, step_found, stepped, steps_known};
@@ -111,7 +111,7 @@ pub(crate) fn walk_to(
     requires first { first ≤ asked + 1 }
     requires small { asked < 2 ^ 63 }
     requires reached { AreReached reaches.now asked }
-    ensures means { Gives (λ found. found.items) result (stepped (steps_known commits.now reaches.now staged_first) asked first) }
+    ensures means { AnswersMeant (λ found. found.items) result (stepped (steps_known commits.now reaches.now staged_first) asked first) }
     ensures refusals { IfErr result ChooseRefuses }
 {
     let mut found = Vec::new(alloc);

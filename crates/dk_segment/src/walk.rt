@@ -4,9 +4,9 @@ ghost use Rattle.dk_paths.specs.Names.{commit_path};
 ghost use Rattle.dk_paths.specs.Places.{place_path};
 ghost use Rattle.dk_lawful.specs.declared.segment.Step.TheVariants as steps;
 ghost use Rattle.dk_lawful.specs.Segments.{commit_place};
-ghost use Rattle.dk_engine.specs.Answers.{Gives};
+ghost use Rattle.dk_engine.specs.Answers.{AnswersMeant};
 ghost use Rattle.dk_segment.specs.Chosen.{ChooseRefuses};
-ghost use Rattle.dk_segment.specs.CommitIndex.{has_name, has_place};
+ghost use Rattle.dk_segment.specs.CommitIndex.{name_ratified_for, has_place};
 ghost use Rattle.dk_segment.specs.Walked.{object_place, walked};
 
 use crate::commit_index::{CommitIndex, CommitObject, find_object};
@@ -56,7 +56,7 @@ pub(crate) fn walk(
     staged_first: bool,
 ) -> Result<Vec<Step>, Refusal>
     requires { first + count ≤ 2 ^ 63 }
-    ensures means { Gives (λ found. found.items) result (walked (commit_place (has_place commits.now) (has_name commits.now) staged_first) first count) }
+    ensures means { AnswersMeant (λ found. found.items) result (walked (commit_place (has_place commits.now) (name_ratified_for commits.now) staged_first) first count) }
     ensures refusals { IfErr result ChooseRefuses }
 {
     let mut found = Vec::new(alloc);

@@ -3,12 +3,12 @@ use Rattle.std.proofs.Common.{◌≡◌, ℕ, suc, zero, ◌<◌, ◌≤◌, Lis
 use Rattle.std.specs.Prelude.{Some, None, ◌==◌, ◌||◌, ◌⊎◌}
 use Rattle.std.proofs.lemmas.Bool.Decides.{eqb_tells}
 use Rattle.dk_snapshot.specs.Plan.{greatest_below}
-use Rattle.dk_snapshot.specs.Versions.{has_version, greatest_from, greatest}
+use Rattle.dk_snapshot.specs.Versions.{have_version, greatest_from, greatest_version}
 
 -- ---- a list of versions
 
 abbrev pub Has : List ℕ → ℕ → Type 0
-Has versions v = has_version versions v ≡ true
+Has versions v = have_version versions v ≡ true
 
 true_or : (b : Bool) → (b || true) ≡ true
 true_or true = refl
@@ -75,7 +75,7 @@ none_true true never = absurd (never refl)
 none_true false _ = refl
 
 -- a test that answers as a list of versions does has its greatest
-pub greatest_below-list : (versions : List ℕ) (test : ℕ → Bool) (limit : ℕ) → ((w : ℕ) → Has versions w → w < limit) → ((w : ℕ) → w < limit → has_version versions w ≡ test w) → greatest_below test limit ≡ greatest versions
+pub greatest_below-list : (versions : List ℕ) (test : ℕ → Bool) (limit : ℕ) → ((w : ℕ) → Has versions w → w < limit) → ((w : ℕ) → w < limit → have_version versions w ≡ test w) → greatest_below test limit ≡ greatest_version versions
 greatest_below-list [] test limit small same = greatest_below-none test limit (λ w lt. sym (same w lt))
 greatest_below-list (v ∷ vs) test limit small same =
     let top : (n : ℕ) × IsGreatest v vs n = greatest_after v vs in
@@ -83,7 +83,7 @@ greatest_below-list (v ∷ vs) test limit small same =
     let found : Has (v ∷ vs) n = elim top.1.found [ inl e ↦ has_head v n vs e | inr t ↦ has_tail v n vs t ] in
     let lt : n < limit = small n found in
     let here : test n ≡ true = sym (same n lt) ∙ found in
-    let above : (w : ℕ) → n < w → w < limit → test w ≡ false = λ w a b. sym (same w b) ∙ none_true (has_version (v ∷ vs) w) (λ h. elim (has_cases v w vs h) [
+    let above : (w : ℕ) → n < w → w < limit → test w ≡ false = λ w a b. sym (same w b) ∙ none_true (have_version (v ∷ vs) w) (λ h. elim (has_cases v w vs h) [
       | inl e ↦ omega (arith, top.1.above)
       | inr t ↦ omega (arith, top.1.all w t)
     ]) in

@@ -15,7 +15,7 @@ use Rattle.dk_features.specs.Support.{fault_name, unread, unread_name}
 use Rattle.dk_paths.specs.Names.{commit_path}
 use Rattle.dk_snapshot.specs.Log.{commit_of_object, meant}
 use Rattle.dk_snapshot.specs.History.{IsLog}
-use Rattle.dk_snapshot.specs.Plan.{stands, greatest_below}
+use Rattle.dk_snapshot.specs.Plan.{commit_stands, greatest_below}
 use Rattle.dk_snapshot.specs.Support.{IsRead, retention, cut_before, cut_by, cut_unless, cut_with, cut_of}
 use Rattle.dk_snapshot.proofs.Greatest.{greatest_below-is}
 
@@ -43,17 +43,17 @@ commit_of_object-is path None x h = cc
 commit_of_object-is path (Some bytes) x h = meant_is path (reading_of bytes) x h
 
 module _ (events : List Told) (log : List (List Action)) (is : IsLog events log) where
-  pub stands_in : (v : ℕ) → v < length log → stands events v ≡ true
+  pub stands_in : (v : ℕ) → v < length log → commit_stands events v ≡ true
   stands_in v lt = some_content events (commit_path v) (get_or log v []) (is.each v lt ∙ slice_get-get_or log v [] lt)
 
-  stands_above : (v : ℕ) → length log ≤ v → v < 2 ^ 63 → stands events v ≡ false
+  stands_above : (v : ℕ) → length log ≤ v → v < 2 ^ 63 → commit_stands events v ≡ false
   stands_above v le small = no_content events (commit_path v) (is.last v le small)
 
-  pub latest_of_log : greatest_below (stands events) (2 ^ 63) ≡ Some (length log - 1)
+  pub latest_of_log : greatest_below (commit_stands events) (2 ^ 63) ≡ Some (length log - 1)
   latest_of_log =
       let some : 0 < length log = is.some in
       let small : length log ≤ 2 ^ 63 = is.small in
-      greatest_below-is (stands events) (2 ^ 63) (length log - 1) (omega arith) (stands_in (length log - 1) (omega arith)) (λ w a b. stands_above w (omega arith) b)
+      greatest_below-is (commit_stands events) (2 ^ 63) (length log - 1) (omega arith) (stands_in (length log - 1) (omega arith)) (λ w a b. stands_above w (omega arith) b)
 
 none_named : (protocol : Protocol) → unread protocol ≡ None → unread_name protocol ≡ None
 unfolding unread_name

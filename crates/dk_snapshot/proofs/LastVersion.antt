@@ -24,7 +24,7 @@ use Rattle.dk_listing.specs.Newest.{all_up_to, complete_version, is_part}
 use Rattle.dk_listing.specs.OfEvents.{stands_at, latest}
 use Rattle.dk_listing.proofs.Places.{Stands, listed_stands}
 use Rattle.dk_listing.proofs.Standing.{any_map}
-use Rattle.dk_snapshot.specs.LatestVersion.{is_of, names_of, lists_complete, is_version, IsLatest}
+use Rattle.dk_snapshot.specs.LatestVersion.{is_of, log_names, lists_complete, is_version, IsLatest}
 use Rattle.dk_snapshot.specs.LawfulOpens.{last_of, LatestIsLast}
 use Rattle.dk_snapshot.proofs.LatestVersion.{Shown, latest_shown, latest_is_greatest, first_or, second_or}
 
@@ -52,7 +52,7 @@ present_at events place allowed there =
 -- ---- complete checkpoints
 
 -- a part that is among the names of the log's folder stands
-part_stands : (events : List Told) (version parts part : ℕ) → part_among (names_of events) version parts part ≡ true → Present events (Part version part parts)
+part_stands : (events : List Told) (version parts part : ℕ) → part_among (log_names events) version parts part ≡ true → Present events (Part version part parts)
 part_stands events version parts part is =
     let found = listed_stands events (is_part version parts part) refl (sym (any_map in_log (λ (e : LogName × Listed). is_part version parts part e.0) (listing events (codes "_delta_log") [])) ∙ is) in
     by found.0 found.1 found.2
@@ -89,7 +89,7 @@ version_of : (found version : ℕ) → is_of (Some found) version ≡ true → f
 version_of found version is = eqb-true found version is
 
 -- a name that begins a complete checkpoint, and stands
-named_complete : (events : List Told) (version : ℕ) (name : LogName) → is_of (complete_version (part_among (names_of events)) name) version ≡ true → Stands events name → Complete events version
+named_complete : (events : List Told) (version : ℕ) (name : LogName) → is_of (complete_version (part_among (log_names events)) name) version ≡ true → Stands events name → Complete events version
 named_complete events version (names.Classic v) passes stands =
     subst (λ (n : ℕ). Complete events n) (version_of v version passes) (inl (present_at events (Classic v) stands.allowed stands.stands))
 named_complete events version (names.V2Json v id) passes stands =
@@ -97,15 +97,15 @@ named_complete events version (names.V2Json v id) passes stands =
 named_complete events version (names.V2Parquet v id) passes stands =
     subst (λ (n : ℕ). Complete events n) (version_of v version passes) (inr (inl (id, (false, present_at events (V2 v id false) stands.allowed stands.stands))))
 named_complete events version (names.Part v part parts) passes stands =
-    by (part == 1 && all_up_to (part_among (names_of events) v parts) parts) refl passes
+    by (part == 1 && all_up_to (part_among (log_names events) v parts) parts) refl passes
   where
-    by : (all : Bool) → (part == 1 && all_up_to (part_among (names_of events) v parts) parts) ≡ all → is_of (if all then Some v else None) version ≡ true → Complete events version
+    by : (all : Bool) → (part == 1 && all_up_to (part_among (log_names events) v parts) parts) ≡ all → is_of (if all then Some v else None) version ≡ true → Complete events version
     by true all is =
-        let two = both-is (part == 1) (all_up_to (part_among (names_of events) v parts) parts) all in
+        let two = both-is (part == 1) (all_up_to (part_among (log_names events) v parts) parts) all in
         let first : 1 ≤ part = stands.allowed.1.first in
         let last : part ≤ parts = stands.allowed.1.last in
         subst (λ (n : ℕ). Complete events n) (version_of v version is)
-        (inr (inr (parts, (omega arith), λ number least most. part_stands events v parts number (each_of (part_among (names_of events) v parts) parts number two.right least most))))
+        (inr (inr (parts, (omega arith), λ number least most. part_stands events v parts number (each_of (part_among (log_names events) v parts) parts number two.right least most))))
     by false all is = absurd (true≢false (sym is))
 named_complete events version (names.Commit v) passes stands = absurd (true≢false (sym passes))
 named_complete events version (names.Compacted first last) passes stands = absurd (true≢false (sym passes))
@@ -113,9 +113,9 @@ named_complete events version names.Hint passes stands = absurd (true≢false (s
 named_complete events version names.Other passes stands = absurd (true≢false (sym passes))
 
 -- a complete checkpoint that the log's folder lists is one
-pub listed_complete : (events : List Told) (version : ℕ) → lists_complete (names_of events) version ≡ true → Complete events version
+pub listed_complete : (events : List Told) (version : ℕ) → lists_complete (log_names events) version ≡ true → Complete events version
 listed_complete events version is =
-    let complete : LogName → Bool = λ name. is_of (complete_version (part_among (names_of events)) name) version in
+    let complete : LogName → Bool = λ name. is_of (complete_version (part_among (log_names events)) name) version in
     let found = listed_stands events complete refl (sym (any_map in_log (λ (e : LogName × Listed). complete e.0) (listing events (codes "_delta_log") [])) ∙ is) in
     named_complete events version found.0 found.1 found.2
 
@@ -139,10 +139,10 @@ module _ (events : List Told) (horizon : ℤ) (lawful : Lawful events horizon) w
   available_is : (version : ℕ) → Available events version → is_version events version ≡ true
   available_is version (inl at) =
       let published : stands_at events (Commit_at version) ≡ true = object_there events (place_path (Commit_at version)) at.0 (held_at events (Commit_at version) at.0 at.1) in
-      first_or (stands_at events (Commit_at version) || lists_complete (names_of events) version) (is_some (standing events version))
-      (first_or (stands_at events (Commit_at version)) (lists_complete (names_of events) version) published)
+      first_or (stands_at events (Commit_at version) || lists_complete (log_names events) version) (is_some (standing events version))
+      (first_or (stands_at events (Commit_at version)) (lists_complete (log_names events) version) published)
   available_is version (inr (id, stands, at)) =
-      second_or (stands_at events (Commit_at version) || lists_complete (names_of events) version) (is_some (standing events version)) (ap (λ (name : Option (List ℕ)). is_some name) stands)
+      second_or (stands_at events (Commit_at version) || lists_complete (log_names events) version) (is_some (standing events version)) (ap (λ (name : Option (List ℕ)). is_some name) stands)
 
   last_is_version : (version : ℕ) → next_version events ≡ suc version → is_version events version ≡ true
   last_is_version version next = available_is version (last_is_available events horizon lawful version (omega arith))

@@ -8,7 +8,7 @@ use Rattle.dk_store.specs.Listing.{listing}
 use Rattle.dk_store.specs.Standings.{ratified_from, standing}
 use Rattle.dk_paths.specs.declared.log_name.LogName.{LogName}
 use Rattle.dk_paths.specs.declared.log_name.LogName.TheVariants as names
-use Rattle.dk_paths.specs.Names.{name_of}
+use Rattle.dk_paths.specs.Names.{log_name_of}
 use Rattle.dk_paths.specs.Places.{Commit_at}
 use Rattle.dk_paths.proofs.Meanings.{named_commit}
 use Rattle.dk_listing.specs.Entries.{in_log}
@@ -18,7 +18,7 @@ use Rattle.dk_listing.specs.OfEvents.{stands_at, latest}
 use Rattle.dk_listing.specs.Presence.{is_at, name_at}
 use Rattle.dk_listing.proofs.LatestOf.{latest_standing}
 use Rattle.dk_listing.proofs.Standing.{any_map, any_same, commit_listed, name_at_standing}
-use Rattle.dk_snapshot.specs.LatestVersion.{is_of, names_of, lists_complete, is_version, IsLatest, LatestIsGreatest, ListedIsGreatest}
+use Rattle.dk_snapshot.specs.LatestVersion.{is_of, log_names, lists_complete, is_version, IsLatest, LatestIsGreatest, ListedIsGreatest}
 
 -- ---- the greatest number that passes a test
 
@@ -104,7 +104,7 @@ at_version version (names.Compacted first last) = refl
 at_version version names.Hint = refl
 at_version version names.Other = refl
 
-small_at : (text : List ℕ) (version : ℕ) (name : LogName) → name_of text ≡ name → is_of (commit_version name) version ≡ true → version < 2 ^ 63
+small_at : (text : List ℕ) (version : ℕ) (name : LogName) → log_name_of text ≡ name → is_of (commit_version name) version ≡ true → version < 2 ^ 63
 small_at text version (names.Commit v) is t = subst (λ (n : ℕ). n < 2 ^ 63) (eqb-true v version t) (named_commit text v is).small
 small_at text version (names.Classic v) is t = absurd (true≢false (sym t))
 small_at text version (names.Part v part parts) is t = absurd (true≢false (sym t))
@@ -119,17 +119,17 @@ lists_version log version = list_any (λ entry. is_of (commit_version entry.0) v
 
 small_listed : (entries : List Listed) (version : ℕ) → lists_version (map in_log entries) version ≡ true → version < 2 ^ 63
 small_listed [] version is = absurd (true≢false (sym is))
-small_listed (entry ∷ entries) version is = by (is_of (commit_version (name_of entry.name)) version) refl is (small_listed entries version)
+small_listed (entry ∷ entries) version is = by (is_of (commit_version (log_name_of entry.name)) version) refl is (small_listed entries version)
   where
-    by : (t : Bool) → is_of (commit_version (name_of entry.name)) version ≡ t → (t || lists_version (map in_log entries) version) ≡ true
+    by : (t : Bool) → is_of (commit_version (log_name_of entry.name)) version ≡ t → (t || lists_version (map in_log entries) version) ≡ true
         → (lists_version (map in_log entries) version ≡ true → version < 2 ^ 63) → version < 2 ^ 63
-    by true here h later = small_at entry.name version (name_of entry.name) refl here
+    by true here h later = small_at entry.name version (log_name_of entry.name) refl here
     by false here h later = later h
 
-published_is : (events : List Told) (version : ℕ) → version < 2 ^ 63 → lists_version (names_of events) version ≡ stands_at events (Commit_at version)
+published_is : (events : List Told) (version : ℕ) → version < 2 ^ 63 → lists_version (log_names events) version ≡ stands_at events (Commit_at version)
 published_is events version small =
     any_map in_log (λ (entry : LogName × Listed). is_of (commit_version entry.0) version) (listing events (codes "_delta_log") [])
-    ∙ any_same (λ (entry : Listed). is_of (commit_version (name_of entry.name)) version) (λ (entry : Listed). is_at (Commit_at version) (name_of entry.name)) (λ entry. at_version version (name_of entry.name)) (listing events (codes "_delta_log") [])
+    ∙ any_same (λ (entry : Listed). is_of (commit_version (log_name_of entry.name)) version) (λ (entry : Listed). is_at (Commit_at version) (log_name_of entry.name)) (λ entry. at_version version (log_name_of entry.name)) (listing events (codes "_delta_log") [])
     ∙ commit_listed events version small
 
 named_any : (es : List (ℕ × List ℕ)) (version : ℕ) → list_any (λ (r : ℕ × List ℕ). is_of (Some r.0) version) es ≡ is_some (name_at es version)
@@ -147,27 +147,27 @@ ratified_is events version = named_any (ratified_from events 0) version ∙ ap (
 -- ---- all of them
 
 abbrev by_names : List Told → ℕ → Bool
-by_names events v = (lists_version (names_of events) v || lists_complete (names_of events) v) || list_any (λ (r : ℕ × List ℕ). is_of (Some r.0) v) (ratified_from events 0)
+by_names events v = (lists_version (log_names events) v || lists_complete (log_names events) v) || list_any (λ (r : ℕ × List ℕ). is_of (Some r.0) v) (ratified_from events 0)
 
 by_names_is : (events : List Told) (version : ℕ) → version < 2 ^ 63 → by_names events version ≡ is_version events version
 by_names_is events version small =
-    ap₂ (λ (x y : Bool). (x || lists_complete (names_of events) version) || y) (published_is events version small) (ratified_is events version)
+    ap₂ (λ (x y : Bool). (x || lists_complete (log_names events) version) || y) (published_is events version small) (ratified_is events version)
 
 -- what is listed or stands ratified is a version
 is_there : (events : List Told) (version : ℕ) → by_names events version ≡ true → is_version events version ≡ true
-is_there events version is = by (lists_version (names_of events) version) refl
+is_there events version is = by (lists_version (log_names events) version) refl
   where
-    by : (t : Bool) → lists_version (names_of events) version ≡ t → is_version events version ≡ true
+    by : (t : Bool) → lists_version (log_names events) version ≡ t → is_version events version ≡ true
     by true here = sym (by_names_is events version (small_listed (listing events (codes "_delta_log") []) version here)) ∙ is
     by false here =
-        let rest : (lists_complete (names_of events) version || is_some (standing events version)) ≡ true =
-        sym (ap₂ (λ (x y : Bool). (x || lists_complete (names_of events) version) || y) here (ratified_is events version)) ∙ is in
-        or_assoc (stands_at events (Commit_at version)) (lists_complete (names_of events) version) (is_some (standing events version))
-        ∙ second_or (stands_at events (Commit_at version)) (lists_complete (names_of events) version || is_some (standing events version)) rest
+        let rest : (lists_complete (log_names events) version || is_some (standing events version)) ≡ true =
+        sym (ap₂ (λ (x y : Bool). (x || lists_complete (log_names events) version) || y) here (ratified_is events version)) ∙ is in
+        or_assoc (stands_at events (Commit_at version)) (lists_complete (log_names events) version) (is_some (standing events version))
+        ∙ second_or (stands_at events (Commit_at version)) (lists_complete (log_names events) version || is_some (standing events version)) rest
 
 names_greatest : (events : List Told) → IsGreatest (by_names events) (latest events)
 names_greatest events =
-    let log : List (LogName × Listed) = names_of events in
+    let log : List (LogName × Listed) = log_names events in
     later_greatest (λ v. lists_version log v || lists_complete log v) (λ v. list_any (λ (r : ℕ × List ℕ). is_of (Some r.0) v) (ratified_from events 0)) _ _
     (later_greatest (lists_version log) (lists_complete log) _ _ (newest_greatest (λ (entry : LogName × Listed). commit_version entry.0) log) (newest_greatest (λ (entry : LogName × Listed). complete_version (part_among log) entry.0) log))
     (newest_greatest (λ (r : ℕ × List ℕ). Some r.0) (ratified_from events 0))
@@ -186,9 +186,9 @@ listed_is_greatest events listing is = subst (λ (found : Option ℕ). IsLatest 
 
 -- it is published and one that a table can have, or has a complete checkpoint in the log's folder, or stands ratified
 abbrev pub Shown : List Told → ℕ → Type 0
-Shown events version = ((version < 2 ^ 63) × (stands_at events (Commit_at version) ≡ true)) ⊎ ((lists_complete (names_of events) version ≡ true) ⊎ (is_some (standing events version) ≡ true))
+Shown events version = ((version < 2 ^ 63) × (stands_at events (Commit_at version) ≡ true)) ⊎ ((lists_complete (log_names events) version ≡ true) ⊎ (is_some (standing events version) ≡ true))
 
-shown_by : (events : List Told) (version : ℕ) (published complete ratified : Bool) → lists_version (names_of events) version ≡ published → lists_complete (names_of events) version ≡ complete
+shown_by : (events : List Told) (version : ℕ) (published complete ratified : Bool) → lists_version (log_names events) version ≡ published → lists_complete (log_names events) version ≡ complete
     → list_any (λ (r : ℕ × List ℕ). is_of (Some r.0) version) (ratified_from events 0) ≡ ratified → ((published || complete) || ratified) ≡ true → Shown events version
 shown_by events version true complete ratified here there stands is =
     let small : version < 2 ^ 63 = small_listed (listing events (codes "_delta_log") []) version here in
@@ -199,4 +199,4 @@ shown_by events version false false ratified here there stands is = inr (inr (sy
 pub latest_shown : (events : List Told) (version : ℕ) → latest events ≡ Some version → Shown events version
 latest_shown events version is =
     let greatest : IsGreatest (by_names events) (Some version) = subst (IsGreatest (by_names events)) is (names_greatest events) in
-    shown_by events version (lists_version (names_of events) version) (lists_complete (names_of events) version) (list_any (λ (r : ℕ × List ℕ). is_of (Some r.0) version) (ratified_from events 0)) refl refl refl greatest.0
+    shown_by events version (lists_version (log_names events) version) (lists_complete (log_names events) version) (list_any (λ (r : ℕ × List ℕ). is_of (Some r.0) version) (ratified_from events 0)) refl refl refl greatest.0

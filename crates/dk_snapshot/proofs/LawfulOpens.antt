@@ -31,7 +31,7 @@ use Rattle.dk_snapshot.specs.declared.table.Snapshot.{Snapshot}
 use Rattle.dk_snapshot.specs.Asked.{version_asked}
 use Rattle.dk_snapshot.specs.LawfulOpens.{last_of, AsksVersion, IsKeptBy, segment_by, HasCut, RefusesRetention, RefusesAwaited, RefusesTable, IsNewestOver, AreWithinLimit, AnswersVersion}
 use Rattle.dk_snapshot.proofs.Values.{OpenedIsAsked, OpenedIsTable, OpenedHasCut, KeptIsAnswered, GapIsMissing, AboveIsNoVersion, EmptyIsMissing}
-use Rattle.dk_snapshot.specs.Opening.{with_cut, state_of, snapshot_with, opened_chosen, opened_version, opened_asked, opened}
+use Rattle.dk_snapshot.specs.Opening.{with_cut, state_of_commits, snapshot_with, opened_chosen, opened_version, opened_asked, opened}
 use Rattle.dk_snapshot.specs.Steps as reading
 use Rattle.dk_snapshot.specs.Steps.{oldest_path}
 use Rattle.dk_snapshot.specs.Support.{retention_key, retention, cut_before, cut_unless, cut_with, cut_of}
@@ -124,9 +124,9 @@ exactly_answers events horizon limits now version segment (Err _) is = absurd is
 
 -- a segment whose steps are read as these commits, or not read for an object over the limit
 read_exactly : (events : List Told) (limits : Limits) (now : ℤ) (version : ℕ) (segment : Segment) → HasHeads (table_at events version) → CanBeRead (table_at events version)
-    → ReadsTo events limits.object segment.steps (take (version + 1) (commits_of (history events))) (reading.commits_of events limits.object segment.steps)
-    → Exactly events limits now version segment (snapshot_with version segment (state_of (oldest_path segment.steps) now (reading.commits_of events limits.object segment.steps)))
-read_exactly events limits now version segment heads can found = by (reading.commits_of events limits.object segment.steps) found
+    → ReadsTo events limits.object segment.steps (take (version + 1) (commits_of (history events))) (reading.commits_of_steps events limits.object segment.steps)
+    → Exactly events limits now version segment (snapshot_with version segment (state_of_commits (oldest_path segment.steps) now (reading.commits_of_steps events limits.object segment.steps)))
+read_exactly events limits now version segment heads can found = by (reading.commits_of_steps events limits.object segment.steps) found
   where
     by_cut : (state : TableState) → state ≡ table_at events version → AreWithinLimit events limits.object segment.steps → (cut : Result ℤ Refusal) → cut_of (oldest_path segment.steps) (table_at events version) now ≡ cut → IsCut (table_at events version).protocol (table_at events version).metadata cut
         → Exactly events limits now version segment (snapshot_with version segment (with_cut state cut))
@@ -135,7 +135,7 @@ read_exactly events limits now version segment heads can found = by (reading.com
     by_cut state same all (Err _) is fine = absurd fine
 
     by : (read : Result (List (List Action)) Refusal) → ReadsTo events limits.object segment.steps (take (version + 1) (commits_of (history events))) read
-        → Exactly events limits now version segment (snapshot_with version segment (state_of (oldest_path segment.steps) now read))
+        → Exactly events limits now version segment (snapshot_with version segment (state_of_commits (oldest_path segment.steps) now read))
     by (Ok commits) reads_them =
         let same : fold commits ≡ table_at events version = ap fold reads_them.0 in
         let oldest : List ℕ = oldest_path segment.steps in

@@ -25,7 +25,7 @@ use Rattle.dk_listing.specs.Sizes.{stored_size}
 use Rattle.dk_snapshot.specs.LawfulOpens.{AreWithinLimit, IsNewestOver}
 use Rattle.dk_snapshot.specs.Log.{commit_of_object, newest_behind}
 use Rattle.dk_snapshot.specs.Steps as reading
-use Rattle.dk_snapshot.specs.Steps.{commit_in, fits, if_fits, step_path}
+use Rattle.dk_snapshot.specs.Steps.{commit_at_path, fits, if_fits, step_path}
 use Rattle.dk_snapshot.proofs.History.{commit_of_object-is}
 use Rattle.dk_snapshot.proofs.LastVersion.{content_there}
 use Rattle.dk_snapshot.proofs.StepReads.{commits_last}
@@ -61,7 +61,7 @@ module _ (events : List Told) (limit : ℕ) where
   -- one more step, whose object means this commit
   one_more : (steps : List Step) (step : Step) (found : List (List Action)) (commit : List Action) (older : Result (List (List Action)) Refusal)
       → commit_of_object (step_path step) (content events (step_path step)) ≡ Ok commit → ReadsTo steps found older
-      → ReadsTo (steps ++ step ∷ []) (found ++ commit ∷ []) (newest_behind (commit_in events limit (step_path step)) older)
+      → ReadsTo (steps ++ step ∷ []) (found ++ commit ∷ []) (newest_behind (commit_at_path events limit (step_path step)) older)
   one_more steps step found commit older means so_far = by (stored_size events (step_path step)) refl
     where
       fine : IfSome (stored_size events (step_path step)) (λ size. size ≤ limit) → ReadsTo (steps ++ step ∷ []) (found ++ commit ∷ []) (newest_behind (commit_of_object (step_path step) (content events (step_path step))) older)
@@ -95,8 +95,8 @@ module _ (events : List Told) (horizon : ℤ) (lawful : Lawful events horizon) (
       ∙ slice_get-get_or commits version [] inside)
 
   pub reads : (limit count : ℕ) → count ≤ next_version events → ((w : ℕ) → w < count → is_some (place_at w) ≡ true)
-      → ReadsTo events limit (steps_from place_at 0 count) (take count commits) (reading.commits_of events limit (steps_from place_at 0 count))
-  reads limit zero most all = subst (λ (steps : List Step). ReadsTo events limit steps (take 0 commits) (reading.commits_of events limit steps)) (sym (steps_none place_at 0)) (refl, tt)
+      → ReadsTo events limit (steps_from place_at 0 count) (take count commits) (reading.commits_of_steps events limit (steps_from place_at 0 count))
+  reads limit zero most all = subst (λ (steps : List Step). ReadsTo events limit steps (take 0 commits) (reading.commits_of_steps events limit steps)) (sym (steps_none place_at 0)) (refl, tt)
   reads limit (suc k) most all =
       let here = some_of (place_at k) (all k (omega arith)) in
       let front : List Step = steps_from place_at 0 k in
@@ -106,9 +106,9 @@ module _ (events : List Told) (horizon : ℤ) (lawful : Lawful events horizon) (
       let long = length_commits (history events) in
       let inside : k < length commits = omega arith in
       let meant = commit_there k here.0 (omega arith) here.1 in
-      let read : ReadsTo events limit (front ++ step ∷ []) (take k commits ++ get_or commits k [] ∷ []) (newest_behind (commit_in events limit (step_path step)) (reading.commits_of events limit front)) =
-      one_more events limit front step (take k commits) (get_or commits k []) (reading.commits_of events limit front) meant (reads limit k (omega arith) (λ w less. all w (omega arith))) in
-      subst (λ (steps : List Step). ReadsTo events limit steps (take (suc k) commits) (reading.commits_of events limit steps)) (sym whole)
+      let read : ReadsTo events limit (front ++ step ∷ []) (take k commits ++ get_or commits k [] ∷ []) (newest_behind (commit_at_path events limit (step_path step)) (reading.commits_of_steps events limit front)) =
+      one_more events limit front step (take k commits) (get_or commits k []) (reading.commits_of_steps events limit front) meant (reads limit k (omega arith) (λ w less. all w (omega arith))) in
+      subst (λ (steps : List Step). ReadsTo events limit steps (take (suc k) commits) (reading.commits_of_steps events limit steps)) (sym whole)
       (subst (λ (r : Result (List (List Action)) Refusal). ReadsTo events limit (front ++ step ∷ []) (take (suc k) commits) r) (sym (commits_last events limit front step))
-      (subst (λ (found : List (List Action)). ReadsTo events limit (front ++ step ∷ []) found (newest_behind (commit_in events limit (step_path step)) (reading.commits_of events limit front)))
+      (subst (λ (found : List (List Action)). ReadsTo events limit (front ++ step ∷ []) found (newest_behind (commit_at_path events limit (step_path step)) (reading.commits_of_steps events limit front)))
       (sym (take-suc commits k [] inside)) read))

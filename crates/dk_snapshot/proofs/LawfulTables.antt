@@ -28,7 +28,7 @@ use Rattle.dk_lawful.specs.History.{RatifiedCommit, commits_of, state_of, histor
 use Rattle.dk_lawful.specs.Lawful.{Lawful}
 use Rattle.dk_lawful.specs.Timestamps.{last_timestamp}
 use Rattle.dk_lawful.specs.SoFar.{awaited}
-use Rattle.dk_lawful.specs.Written.{is_read_by, is_written_by, is_written}
+use Rattle.dk_lawful.specs.Written.{is_read_by, is_written_by, is_table_written}
 use Rattle.dk_lawful.specs.Rules.{is_plain_add, keeps_heads, keeps_kinds, keeps_paths_apart, keeps_names_apart, keeps_protocol, keeps_writer, keeps_rows, keeps_domains, keeps_times, keeps_management, keeps_adds, KeepsRules, IsValidNext}
 use Rattle.dk_lawful.proofs.Heads.{state_after}
 use Rattle.dk_lawful.proofs.SoFar.{read_so_far}
@@ -98,8 +98,8 @@ keeps before last version actions valid =
     record { writer = six.0; adds = eleven.0 }
 
 -- what the law writes it reads
-reader_of : (protocol : Option Protocol) (metadata : Option Metadata) → is_written protocol metadata ≡ true → IfSome protocol (λ p. is_read_by p ≡ true)
-unfolding is_written
+reader_of : (protocol : Option Protocol) (metadata : Option Metadata) → is_table_written protocol metadata ≡ true → IfSome protocol (λ p. is_read_by p ≡ true)
+unfolding is_table_written
 reader_of None metadata written = tt
 reader_of (Some p) None written = absurd (true≢false (sym written))
 reader_of (Some p) (Some m) written = (and_parts (is_read_by p) (is_written_by (uses_invariants m.schema_string) p) written).0

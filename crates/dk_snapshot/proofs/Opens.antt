@@ -12,19 +12,19 @@ use Rattle.dk_lawful.specs.Segments.{commit_segment, commit_gap}
 use Rattle.dk_engine.specs.declared.limits.Limits.{Limits}
 use Rattle.dk_engine.specs.declared.refusal.Refusal.{Refusal}
 use Rattle.dk_engine.specs.declared.refusal.Refusal.TheVariants as refusals
-use Rattle.dk_engine.specs.Answers.{Gives, GivesBy}
+use Rattle.dk_engine.specs.Answers.{AnswersMeant, AnswersBy}
 use Rattle.dk_engine.proofs.Refused.{gives_by}
 use Rattle.dk_listing.specs.declared.catalogued.Catalogued.{Catalogued}
 use Rattle.dk_listing.specs.OfEvents.{IsListingOf, stands_at, latest}
 use Rattle.dk_segment.specs.Chosen.{unless_gap}
 use Rattle.dk_snapshot.specs.declared.table.Snapshot.{Snapshot}
 use Rattle.dk_snapshot.specs.Asked.{version_asked}
-use Rattle.dk_snapshot.specs.Opening.{state_of, read_of, snapshot_with, opened_segment, opened_chosen, opened_asked, opened}
+use Rattle.dk_snapshot.specs.Opening.{state_of_commits, read_of, snapshot_with, opened_segment, opened_chosen, opened_asked, opened}
 use Rattle.dk_snapshot.specs.Opens.{state_behind, opened_over, OpensFrom, OpensChosen, OpensAsked, Opens, OpensAsSome, OpensAsOne}
-use Rattle.dk_snapshot.specs.Steps.{commits_of, oldest_path}
+use Rattle.dk_snapshot.specs.Steps.{commits_of_steps, oldest_path}
 
 -- without a base the commits make up the state
-same_state : (oldest : List ℕ) (now : ℤ) (commits : Result (List (List Action)) Refusal) → state_behind oldest now (Ok []) commits ≡ state_of oldest now commits
+same_state : (oldest : List ℕ) (now : ℤ) (commits : Result (List (List Action)) Refusal) → state_behind oldest now (Ok []) commits ≡ state_of_commits oldest now commits
 same_state oldest now (Ok commits) = refl
 same_state oldest now (Err refusal) = refl
 
@@ -33,7 +33,7 @@ module _ (events : List Told) (limits : Limits) (now : ℤ) (version : ℕ) (ste
   walked = record { base = None; steps = steps }
 
   opened_alone : opened_over events limits now version walked (Ok []) ≡ opened_segment events limits now version walked
-  opened_alone = ap (snapshot_with version walked) (same_state (oldest_path steps) now (commits_of events limits.object steps))
+  opened_alone = ap (snapshot_with version walked) (same_state (oldest_path steps) now (commits_of_steps events limits.object steps))
 
   from_opens : OpensFrom events limits now version walked (opened_segment events limits now version walked)
   from_opens = (Ok [], refl, sym opened_alone)
@@ -81,10 +81,10 @@ opens_as_one events limits at choice now one other opens also = sym (opens_is ev
 
 module _ (limits : Limits) (at : Option ℕ) (choice : Choice) (now : ℤ) where
   abbrev GivesValue : Result Snapshot Refusal → List Told → Type 0
-  GivesValue result events = Gives {X = Snapshot} (λ snapshot. snapshot) result (opened events limits at choice now)
+  GivesValue result events = AnswersMeant {X = Snapshot} (λ snapshot. snapshot) result (opened events limits at choice now)
 
   abbrev GivesOpening : Result Snapshot Refusal → List Told → Type 0
-  GivesOpening result events = GivesBy {X = Snapshot} (λ snapshot. snapshot) result (Opens events limits at choice now)
+  GivesOpening result events = AnswersBy {X = Snapshot} (λ snapshot. snapshot) result (Opens events limits at choice now)
 
   -- what gives the value of the commits gives what the version may open as, and back
   gives_opening : (result : Result Snapshot Refusal) (events : List Told) → GivesValue result events → GivesOpening result events

@@ -19,7 +19,7 @@ use Rattle.dk_lawful.specs.Segments.{if_present, id_of, id_named, published_at, 
 use Rattle.dk_engine.specs.declared.limits.Limits.{Limits}
 use Rattle.dk_engine.specs.declared.refusal.Refusal.{Refusal}
 use Rattle.dk_engine.specs.declared.refusal.Refusal.TheVariants as refusals
-use Rattle.dk_engine.specs.Answers.{Refuses, Gives}
+use Rattle.dk_engine.specs.Answers.{Refuses, AnswersMeant}
 use Rattle.dk_engine.proofs.Refused.{refused_by_part, gives_same}
 use Rattle.dk_listing.specs.declared.catalogued.Catalogued.{Catalogued}
 use Rattle.dk_listing.specs.OfEvents.{IsListingOf}
@@ -30,10 +30,10 @@ use Rattle.dk_segment.specs.Walked.{walked, unless_absent}
 use Rattle.dk_snapshot.specs.declared.table.Snapshot.{Snapshot}
 use Rattle.dk_snapshot.specs.Surveyed.{Surveys}
 use Rattle.dk_snapshot.specs.Effects.{changes_read}
-use Rattle.dk_snapshot.specs.Opening.{state_read, state_of, read_of, snapshot_with, opened_segment, opened}
+use Rattle.dk_snapshot.specs.Opening.{state_read, state_of_commits, read_of, snapshot_with, opened_segment, opened}
 use Rattle.dk_snapshot.specs.declared.sized_segment.SizedSegment.{SizedSegment}
 use Rattle.dk_snapshot.specs.SizedSegment.{IsSizedSegmentAt}
-use Rattle.dk_snapshot.specs.Steps.{AreSized, commits_of, oldest_path, step_path}
+use Rattle.dk_snapshot.specs.Steps.{AreSized, commits_of_steps, oldest_path, step_path}
 use Rattle.dk_snapshot.proofs.Effects.{fold_changes}
 
 -- ---- what holds of the commits' places holds of the steps
@@ -136,49 +136,49 @@ abbrev by_changes : List ℕ → ℤ → Result (List Action) Refusal → Result
 by_changes oldest now (Ok changes) = state_read oldest now (steps empty_state changes)
 by_changes oldest now (Err refusal) = Err refusal
 
-state_by_changes : (oldest : List ℕ) (now : ℤ) (read : Result (List (List Action)) Refusal) → by_changes oldest now (changes_read read) ≡ state_of oldest now read
+state_by_changes : (oldest : List ℕ) (now : ℤ) (read : Result (List (List Action)) Refusal) → by_changes oldest now (changes_read read) ≡ state_of_commits oldest now read
 state_by_changes oldest now (Ok commits) = ap (λ (s : TableState). state_read oldest now s) (fold_changes empty_state commits)
 state_by_changes oldest now (Err refusal) = refl
 
 pub segment_read : {X : Type 0} (view : X → TableState × ℤ) (told : Option (List Told)) (limits : Limits) (now passed : ℤ) (oldest : List ℕ) (walked : List Step) (segment : Segment) (sizes : List (Option ℕ)) (found : List Action) (result : Result X Refusal)
     → passed ≡ now → walked ≡ segment.steps → oldest ≡ oldest_path walked
-    → IfSome told (λ events. AreSized events walked sizes → changes_read (commits_of events limits.object walked) ≡ Ok (reverse found))
-    → Gives view result (state_read oldest passed (steps empty_state (reverse found)))
-    → IfSome told (λ events. AreSized events segment.steps sizes → Gives view result (read_of events limits now segment))
+    → IfSome told (λ events. AreSized events walked sizes → changes_read (commits_of_steps events limits.object walked) ≡ Ok (reverse found))
+    → AnswersMeant view result (state_read oldest passed (steps empty_state (reverse found)))
+    → IfSome told (λ events. AreSized events segment.steps sizes → AnswersMeant view result (read_of events limits now segment))
 segment_read view None limits now passed oldest walked segment sizes found result same walk path reads means = tt
 segment_read view (Some events) limits now passed oldest walked segment sizes found result same walk path reads means = λ sized.
     let here : AreSized events walked sizes = subst (λ (s : List Step). AreSized events s sizes) (sym walk) sized in
     gives_same view result (state_read oldest passed (steps empty_state (reverse found))) (read_of events limits now segment)
-    (ap (by_changes oldest passed) (sym (reads here)) ∙ state_by_changes oldest passed (commits_of events limits.object walked) ∙ ap₂ (λ (o : List ℕ) (n : ℤ). state_of o n (commits_of events limits.object walked)) path same
-    ∙ ap (λ (s : List Step). state_of (oldest_path s) now (commits_of events limits.object s)) walk) means
+    (ap (by_changes oldest passed) (sym (reads here)) ∙ state_by_changes oldest passed (commits_of_steps events limits.object walked) ∙ ap₂ (λ (o : List ℕ) (n : ℤ). state_of_commits o n (commits_of_steps events limits.object walked)) path same
+    ∙ ap (λ (s : List Step). state_of_commits (oldest_path s) now (commits_of_steps events limits.object s)) walk) means
 
 pub segment_refused : (told : Option (List Told)) (limits : Limits) (now : ℤ) (walked : List Step) (segment : Segment) (sizes : List (Option ℕ)) (refusal : Refusal) → walked ≡ segment.steps
-    → IfSome told (λ events. AreSized events walked sizes → Refuses refusal (changes_read (commits_of events limits.object walked)))
+    → IfSome told (λ events. AreSized events walked sizes → Refuses refusal (changes_read (commits_of_steps events limits.object walked)))
     → IfSome told (λ events. AreSized events segment.steps sizes → Refuses refusal (read_of events limits now segment))
 segment_refused None limits now walked segment sizes refusal walk refused = tt
 segment_refused (Some events) limits now walked segment sizes refusal walk refused = λ sized.
     let here : AreSized events walked sizes = subst (λ (s : List Step). AreSized events s sizes) (sym walk) sized in
-    subst (λ (s : List Step). Refuses refusal (state_of (oldest_path s) now (commits_of events limits.object s))) walk
-    (subst (λ (read : Result (TableState × ℤ) Refusal). Refuses refusal read) (state_by_changes (oldest_path walked) now (commits_of events limits.object walked))
-    (refused_by_part (by_changes (oldest_path walked) now) (λ r. refl) refusal (changes_read (commits_of events limits.object walked)) (refused here)))
+    subst (λ (s : List Step). Refuses refusal (state_of_commits (oldest_path s) now (commits_of_steps events limits.object s))) walk
+    (subst (λ (read : Result (TableState × ℤ) Refusal). Refuses refusal read) (state_by_changes (oldest_path walked) now (commits_of_steps events limits.object walked))
+    (refused_by_part (by_changes (oldest_path walked) now) (λ r. refl) refusal (changes_read (commits_of_steps events limits.object walked)) (refused here)))
 
 -- a snapshot of what was read is that of what is meant
-snapshot_given : (version : ℕ) (segment : Segment) (read meant : Result (TableState × ℤ) Refusal) → Gives (λ (r : TableState × ℤ). r) read meant
-    → Gives (λ (s : Snapshot). s) (snapshot_with version segment read) (snapshot_with version segment meant)
+snapshot_given : (version : ℕ) (segment : Segment) (read meant : Result (TableState × ℤ) Refusal) → AnswersMeant (λ (r : TableState × ℤ). r) read meant
+    → AnswersMeant (λ (s : Snapshot). s) (snapshot_with version segment read) (snapshot_with version segment meant)
 snapshot_given version segment (Ok read) meant gives = ap (snapshot_with version segment) gives
 snapshot_given version segment (Err refusal) meant gives = refused_by_part (snapshot_with version segment) (λ r. refl) refusal meant gives
 
 -- what is read from a sized segment is its version
 pub sized_read : (told : Option (List Told)) (limits : Limits) (now passed : ℤ) (version : ℕ) (segment : Segment) (sizes lent : List (Option ℕ)) (read : Result (TableState × ℤ) Refusal) (result : Result Snapshot Refusal)
     → passed ≡ now → lent ≡ sizes
-    → IfSome told (λ events. AreSized events segment.steps lent → Gives (λ (r : TableState × ℤ). r) read (read_of events limits passed segment))
+    → IfSome told (λ events. AreSized events segment.steps lent → AnswersMeant (λ (r : TableState × ℤ). r) read (read_of events limits passed segment))
     → result ≡ snapshot_with version segment read
-    → IfSome told (λ events. AreSized events segment.steps sizes → Gives (λ (s : Snapshot). s) result (opened_segment events limits now version segment))
+    → IfSome told (λ events. AreSized events segment.steps sizes → AnswersMeant (λ (s : Snapshot). s) result (opened_segment events limits now version segment))
 sized_read None limits now passed version segment sizes lent read result same lends means is_with = tt
 sized_read (Some events) limits now passed version segment sizes lent read result same lends means is_with = λ sized.
     gives_same (λ (s : Snapshot). s) result (opened_segment events limits passed version segment) (opened_segment events limits now version segment)
     (ap (λ (n : ℤ). opened_segment events limits n version segment) same)
-    (subst (λ (r : Result Snapshot Refusal). Gives (λ (s : Snapshot). s) r (opened_segment events limits passed version segment)) (sym is_with)
+    (subst (λ (r : Result Snapshot Refusal). AnswersMeant (λ (s : Snapshot). s) r (opened_segment events limits passed version segment)) (sym is_with)
     (snapshot_given version segment read (read_of events limits passed segment) (means (lends ∙ sized))))
 
 pub read_version : (version : ℕ) (segment : Segment) (read : Result (TableState × ℤ) Refusal) (result : Result Snapshot Refusal) → result ≡ snapshot_with version segment read → IfOk result (λ (s : Snapshot). s.version ≡ version)
@@ -188,8 +188,8 @@ read_version version segment (Err other) result is_with = subst (λ (r : Result 
 -- a sized segment by a listing of the events gives the asked version
 pub listed_opened : {X : Type 0} (view : X → Snapshot) (told : Option (List Told)) (listing : Catalogued) (limits : Limits) (at : Option ℕ) (choice : Choice) (now passed : ℤ) (sized_segment : SizedSegment) (result : Result X Refusal) → passed ≡ now
     → ((events : List Told) → IsListingOf events listing → IsSizedSegmentAt events at choice (Ok sized_segment))
-    → IfSome told (λ events. AreSized events sized_segment.segment.steps sized_segment.sizes.items → Gives view result (opened_segment events limits passed sized_segment.version sized_segment.segment))
-    → IfSome told (λ events. IsListingOf events listing → Gives view result (opened events limits at choice now))
+    → IfSome told (λ events. AreSized events sized_segment.segment.steps sized_segment.sizes.items → AnswersMeant view result (opened_segment events limits passed sized_segment.version sized_segment.segment))
+    → IfSome told (λ events. IsListingOf events listing → AnswersMeant view result (opened events limits at choice now))
 listed_opened view None listing limits at choice now passed sized_segment result moment found means = tt
 listed_opened view (Some events) listing limits at choice now passed sized_segment result moment found means = λ is.
     let are : IsSizedSegmentAt events at choice (Ok sized_segment) = found events is in
@@ -209,16 +209,16 @@ refused_survey events limits at choice now refusals.OutOfMemory found = tt
 refused_survey events limits at choice now refusal found = absurd found
 
 pub survey_refused : (told : Option (List Told)) (limits : Limits) (at : Option ℕ) (choice : Choice) (now : ℤ) (refusal : Refusal) → IfSome told (λ events. Surveys events (Err refusal))
-    → IfSome told (λ events. Gives (λ (snapshot : Snapshot). snapshot) (Err refusal) (opened events limits at choice now))
+    → IfSome told (λ events. AnswersMeant (λ (snapshot : Snapshot). snapshot) (Err refusal) (opened events limits at choice now))
 survey_refused None limits at choice now refusal found = tt
 survey_refused (Some events) limits at choice now refusal found = refused_survey events limits at choice now refusal found
 
 -- what is opened by the listing that a survey found is the asked version
 pub survey_opened : {X : Type 0} (view : X → Snapshot) (told mid : Option (List Told)) (listing : Catalogued) (limits : Limits) (at : Option ℕ) (choice : Choice) (now passed : ℤ) (result : Result X Refusal) → passed ≡ now → mid ≡ told
     → IfSome told (λ events. IsListingOf events listing)
-    → IfSome mid (λ events. IsListingOf events listing → Gives view result (opened events limits at choice passed))
-    → IfSome told (λ events. Gives view result (opened events limits at choice now))
+    → IfSome mid (λ events. IsListingOf events listing → AnswersMeant view result (opened events limits at choice passed))
+    → IfSome told (λ events. AnswersMeant view result (opened events limits at choice now))
 survey_opened view None mid listing limits at choice now passed result moment still found opens = tt
 survey_opened view (Some events) mid listing limits at choice now passed result moment still found opens =
-    let here : IsListingOf events listing → Gives view result (opened events limits at choice passed) = rw still at opens in
+    let here : IsListingOf events listing → AnswersMeant view result (opened events limits at choice passed) = rw still at opens in
     gives_same view result (opened events limits at choice passed) (opened events limits at choice now) (ap (λ (n : ℤ). opened events limits at choice n) moment) (here found)

@@ -19,8 +19,8 @@ is_of None version = false
 is_of (Some found) version = found == version
 
 -- the names of the log's folder
-abbrev pub names_of : List Told → List (LogName × Listed)
-names_of events = map in_log (listing events (codes "_delta_log") [])
+abbrev pub log_names : List Told → List (LogName × Listed)
+log_names events = map in_log (listing events (codes "_delta_log") [])
 
 -- whether a complete checkpoint of the version is among them
 abbrev pub lists_complete : List (LogName × Listed) → ℕ → Bool
@@ -28,7 +28,7 @@ lists_complete log version = list_any (λ entry. is_of (complete_version (part_a
 
 -- whether the version is published, has a complete checkpoint in the log's folder, or stands ratified
 abbrev pub is_version : List Told → ℕ → Bool
-is_version events version = (stands_at events (Commit_at version) || lists_complete (names_of events) version) || is_some (standing events version)
+is_version events version = (stands_at events (Commit_at version) || lists_complete (log_names events) version) || is_some (standing events version)
 
 -- it is the greatest of these; where it is none, there is none
 abbrev pub IsLatest : List Told → Option ℕ → Type 0

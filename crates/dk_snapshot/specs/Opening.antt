@@ -14,7 +14,7 @@ use Rattle.dk_listing.specs.OfEvents.{stands_at, latest}
 use Rattle.dk_segment.specs.Chosen.{chosen}
 use Rattle.dk_snapshot.specs.declared.table.Snapshot.{Snapshot}
 use Rattle.dk_snapshot.specs.Asked.{version_asked}
-use Rattle.dk_snapshot.specs.Steps.{commits_of, oldest_path}
+use Rattle.dk_snapshot.specs.Steps.{commits_of_steps, oldest_path}
 use Rattle.dk_snapshot.specs.Support.{cut_of}
 
 -- the choice under which versions are opened usually
@@ -32,12 +32,12 @@ abbrev pub state_read : List ℕ → ℤ → TableState → Result (TableState �
 state_read oldest now state = with_cut state (cut_of oldest state now)
 
 -- the state that these commits make up
-abbrev pub state_of : List ℕ → ℤ → Result (List (List Action)) Refusal → Result (TableState × ℤ) Refusal
-state_of oldest now (Ok commits) = state_read oldest now (fold commits)
-state_of oldest now (Err refusal) = Err refusal
+abbrev pub state_of_commits : List ℕ → ℤ → Result (List (List Action)) Refusal → Result (TableState × ℤ) Refusal
+state_of_commits oldest now (Ok commits) = state_read oldest now (fold commits)
+state_of_commits oldest now (Err refusal) = Err refusal
 
 abbrev pub read_of : List Told → Limits → ℤ → Segment → Result (TableState × ℤ) Refusal
-read_of events limits now segment = state_of (oldest_path segment.steps) now (commits_of events limits.object segment.steps)
+read_of events limits now segment = state_of_commits (oldest_path segment.steps) now (commits_of_steps events limits.object segment.steps)
 
 -- ---- a version
 

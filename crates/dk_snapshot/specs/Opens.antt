@@ -18,7 +18,7 @@ use Rattle.dk_segment.specs.Chosen.{chosen}
 use Rattle.dk_snapshot.specs.declared.table.Snapshot.{Snapshot}
 use Rattle.dk_snapshot.specs.Asked.{version_asked}
 use Rattle.dk_snapshot.specs.Opening.{snapshot_with, state_read}
-use Rattle.dk_snapshot.specs.Steps.{commits_of, oldest_path}
+use Rattle.dk_snapshot.specs.Steps.{commits_of_steps, oldest_path}
 use Rattle.dk_snapshot.specs.Support.{first_commit}
 
 -- ---- the base of a segment
@@ -54,7 +54,7 @@ state_behind oldest now base (Err refusal) = Err refusal
 -- the version that is read from a segment whose base is read so
 abbrev pub opened_over : List Told → Limits → ℤ → ℕ → Segment → Result (List Action) Refusal → Result Snapshot Refusal
 opened_over events limits now version segment base =
-    snapshot_with version segment (state_behind (oldest_object segment.base segment.steps) now base (commits_of events limits.object segment.steps))
+    snapshot_with version segment (state_behind (oldest_object segment.base segment.steps) now base (commits_of_steps events limits.object segment.steps))
 
 abbrev pub OpensFrom : List Told → Limits → ℤ → ℕ → Segment → Result Snapshot Refusal → Type 0
 OpensFrom events limits now version segment result =

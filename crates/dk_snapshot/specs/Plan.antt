@@ -5,8 +5,8 @@ use Rattle.dk_store.specs.Objects.{object}
 use Rattle.dk_paths.specs.Names.{commit_path}
 
 -- whether the commit of a version stands in the log
-abbrev pub stands : List Told → ℕ → Bool
-stands events version = is_some (object events (commit_path version))
+abbrev pub commit_stands : List Told → ℕ → Bool
+commit_stands events version = is_some (object events (commit_path version))
 
 -- the greatest number below a limit that passes the test
 unfoldable pub greatest_below : (ℕ → Bool) → ℕ → Option ℕ

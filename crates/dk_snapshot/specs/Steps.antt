@@ -31,17 +31,17 @@ if_fits (Ok u) meaning = meaning
 if_fits (Err refusal) meaning = Err refusal
 
 -- what the object at a path means as a commit: its size is tested first, then its presence
-abbrev pub commit_in : List Told → ℕ → List ℕ → Result (List Action) Refusal
-commit_in events limit path = if_fits (fits limit (stored_size events path)) (commit_of_object path (content events path))
+abbrev pub commit_at_path : List Told → ℕ → List ℕ → Result (List Action) Refusal
+commit_at_path events limit path = if_fits (fits limit (stored_size events path)) (commit_of_object path (content events path))
 
 -- the commits of steps that stand newest first, oldest first; or the first refusal from the newest on
 abbrev pub commits_back : List Told → ℕ → List Step → Result (List (List Action)) Refusal
 commits_back events limit [] = Ok []
-commits_back events limit (step ∷ older) = newest_behind (commit_in events limit (step_path step)) (commits_back events limit older)
+commits_back events limit (step ∷ older) = newest_behind (commit_at_path events limit (step_path step)) (commits_back events limit older)
 
 -- the commits of steps that stand oldest first
-abbrev pub commits_of : List Told → ℕ → List Step → Result (List (List Action)) Refusal
-commits_of events limit steps = commits_back events limit (reverse steps)
+abbrev pub commits_of_steps : List Told → ℕ → List Step → Result (List (List Action)) Refusal
+commits_of_steps events limit steps = commits_back events limit (reverse steps)
 
 -- these are the sizes of what stands at the steps
 abbrev pub AreSized : List Told → List Step → List (Option ℕ) → Type 0

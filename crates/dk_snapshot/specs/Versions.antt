@@ -3,17 +3,17 @@ use Rattle.std.specs.Prelude.{ℕ, ◌==◌, max, Bool, List, [], ◌∷◌, Opt
 use Rattle.std.specs.List.{list_any}
 
 -- whether a version is among these
-abbrev pub has_version : List ℕ → ℕ → Bool
-has_version versions version = list_any (λ v. v == version) versions
+abbrev pub have_version : List ℕ → ℕ → Bool
+have_version versions version = list_any (λ v. v == version) versions
 
-abbrev pub greater : Option ℕ → ℕ → Option ℕ
-greater None version = Some version
-greater (Some best) version = Some (max best version)
+abbrev pub greater_so_far : Option ℕ → ℕ → Option ℕ
+greater_so_far None version = Some version
+greater_so_far (Some best) version = Some (max best version)
 
 -- the greatest of these versions and one before them
 abbrev pub greatest_from : Option ℕ → List ℕ → Option ℕ
 greatest_from best [] = best
-greatest_from best (version ∷ versions) = greatest_from (greater best version) versions
+greatest_from best (version ∷ versions) = greatest_from (greater_so_far best version) versions
 
-abbrev pub greatest : List ℕ → Option ℕ
-greatest versions = greatest_from None versions
+abbrev pub greatest_version : List ℕ → Option ℕ
+greatest_version versions = greatest_from None versions

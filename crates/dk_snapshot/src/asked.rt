@@ -1,6 +1,6 @@
 //! Which version is opened.
 ghost use Rattle.std.specs.Prelude.{◌≡◌, ◌<◌, ◌^◌, Err, IfErr, IfOk, IfSome, None, Some};
-ghost use Rattle.dk_engine.specs.Answers.{Gives};
+ghost use Rattle.dk_engine.specs.Answers.{AnswersMeant};
 ghost use Rattle.dk_paths.specs.Names.{commit_path};
 ghost use Rattle.dk_snapshot.specs.Asked.{version_asked};
 ghost use Rattle.dk_snapshot.specs.Refusals.{OpenRefuses};
@@ -26,7 +26,7 @@ pub(crate) fn asked_version(
     at: Option<u64>,
 ) -> Result<u64, Refusal>
     requires { IfSome latest (λ version. version < 2 ^ 63) }
-    ensures means { Gives (λ version. version) result (version_asked at latest) }
+    ensures means { AnswersMeant (λ version. version) result (version_asked at latest) }
     ensures small { IfOk result (λ version. version < 2 ^ 63) }
     ensures latest { at ≡ None → IfOk result (λ version. Some version ≡ latest) }
     ensures store { result ≡ Err Refusal.Store → ⊥ }

@@ -4,7 +4,7 @@ ghost use Rattle.std.specs.List.{AllByRecursion};
 ghost use Rattle.dk_store.specs.Seen.{IfTold};
 ghost use Rattle.dk_model.specs.ReadBack.{HasVersionsInRange};
 ghost use Rattle.dk_model.specs.State.{empty_state, steps};
-ghost use Rattle.dk_engine.specs.Answers.{Gives, GivesBy};
+ghost use Rattle.dk_engine.specs.Answers.{AnswersMeant, AnswersBy};
 ghost use Rattle.dk_engine.specs.Effects.{OnlyReads};
 ghost use Rattle.dk_listing.specs.Latest.{latest_of};
 ghost use Rattle.dk_listing.specs.OfEvents.{IsListingOf};
@@ -36,7 +36,7 @@ fn state_of(
     now: i64,
 ) -> Result<(TableState, i64), Refusal>
     requires { AllByRecursion HasVersionsInRange (reverse newest_first.items) }
-    ensures means { Gives (λ read. read) result (state_read oldest.now now (steps empty_state (reverse newest_first.items))) }
+    ensures means { AnswersMeant (λ read. read) result (state_read oldest.now now (steps empty_state (reverse newest_first.items))) }
     ensures complete { IfOk result (λ read. IsComplete read.0) }
     ensures store { result ≡ Err Refusal.Store → ⊥ }
     ensures refusals { IfErr result (OpenRefuses None) }
@@ -60,7 +60,7 @@ fn read_segment(
 ) -> Result<(TableState, i64), Refusal>
     ensures reads { OnlyReads (seen store.old) (seen store.new) result }
     ensures refusals { IfErr result (OpenRefuses None) }
-    ensures means { IfTold (seen store.old) (λ events. AreSized events segment.now.steps sizes.now → Gives (λ read. read) result (read_of events limits now segment.now)) }
+    ensures means { IfTold (seen store.old) (λ events. AreSized events segment.now.steps sizes.now → AnswersMeant (λ read. read) result (read_of events limits now segment.now)) }
     ensures complete { IfOk result (λ read. IsComplete read.0) }
 {
     let steps = segment.steps.as_slice();
@@ -100,7 +100,7 @@ fn read_sized(
 ) -> Result<Snapshot, Refusal>
     ensures reads { OnlyReads (seen store.old) (seen store.new) result }
     ensures refusals { IfErr result (OpenRefuses None) }
-    ensures means { IfTold (seen store.old) (λ events. AreSized events sized_segment.segment.steps sized_segment.sizes.items → Gives (λ snapshot. snapshot) result (opened_segment events limits now sized_segment.version sized_segment.segment)) }
+    ensures means { IfTold (seen store.old) (λ events. AreSized events sized_segment.segment.steps sized_segment.sizes.items → AnswersMeant (λ snapshot. snapshot) result (opened_segment events limits now sized_segment.version sized_segment.segment)) }
     ensures complete { IfOk result (λ snapshot. IsComplete snapshot.state) }
     ensures version { IfOk result (λ snapshot. snapshot.version ≡ sized_segment.version) }
 {
@@ -127,7 +127,7 @@ pub fn open_listed(
 ) -> Result<Snapshot, Refusal>
     ensures reads { OnlyReads (seen store.old) (seen store.new) result }
     ensures refusals { IfErr result (OpenRefuses at) }
-    ensures means { IfTold (seen store.old) (λ events. IsListingOf events listing.now → GivesBy (λ snapshot. snapshot) result (Opens events limits at choice.now now)) }
+    ensures means { IfTold (seen store.old) (λ events. IsListingOf events listing.now → AnswersBy (λ snapshot. snapshot) result (Opens events limits at choice.now now)) }
     ensures complete { IfOk result (λ snapshot. IsComplete snapshot.state) }
     ensures latest { at ≡ None → IfOk result (λ snapshot. Some snapshot.version ≡ latest_of listing.now) }
     ensures small { IfOk result (λ snapshot. snapshot.version < 2 ^ 63) }
@@ -152,7 +152,7 @@ fn open_surveyed(
 ) -> Result<Snapshot, Refusal>
     ensures reads { OnlyReads (seen store.old) (seen store.new) result }
     ensures refusals { IfErr result (OpenRefuses at) }
-    ensures means { IfTold (seen store.old) (λ events. IsListingOf events listing → Gives (λ snapshot. snapshot) result (opened events limits at choice.now now)) }
+    ensures means { IfTold (seen store.old) (λ events. IsListingOf events listing → AnswersMeant (λ snapshot. snapshot) result (opened events limits at choice.now now)) }
     ensures complete { IfOk result (λ snapshot. IsComplete snapshot.state) }
     ensures small { IfOk result (λ snapshot. snapshot.version < 2 ^ 63) }
 {
@@ -187,7 +187,7 @@ pub fn open_at(
 ) -> Result<Snapshot, Refusal>
     ensures reads { OnlyReads (seen store.old) (seen store.new) result }
     ensures refusals { IfErr result (OpenRefuses at) }
-    ensures means { IfTold (seen store.old) (λ events. GivesBy (λ snapshot. snapshot) result (Opens events limits at choice.now now)) }
+    ensures means { IfTold (seen store.old) (λ events. AnswersBy (λ snapshot. snapshot) result (Opens events limits at choice.now now)) }
     ensures complete { IfOk result (λ snapshot. IsComplete snapshot.state) }
     ensures small { IfOk result (λ snapshot. snapshot.version < 2 ^ 63) }
 {

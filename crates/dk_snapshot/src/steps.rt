@@ -5,13 +5,13 @@ ghost use Rattle.dk_store.specs.Seen.{IfTold, StoreReads};
 ghost use Rattle.dk_store.specs.Objects.{content};
 ghost use Rattle.dk_model.specs.CommitText.{reading_of};
 ghost use Rattle.dk_model.specs.ReadBack.{HasVersionsInRange};
-ghost use Rattle.dk_engine.specs.Answers.{Gives};
+ghost use Rattle.dk_engine.specs.Answers.{AnswersMeant};
 ghost use Rattle.dk_engine.specs.Effects.{OnlyReads};
 ghost use Rattle.dk_listing.specs.Sizes.{stored_size};
 ghost use Rattle.dk_snapshot.specs.Effects.{changes_read};
 ghost use Rattle.dk_snapshot.specs.Log.{commit_of_object, meant};
 ghost use Rattle.dk_snapshot.specs.Refusals.{OpenRefuses, ReadRefuses};
-ghost use Rattle.dk_snapshot.specs.Steps.{AreSized, commit_in, commits_of, fits, oldest_path, step_path};
+ghost use Rattle.dk_snapshot.specs.Steps.{AreSized, commit_at_path, commits_of_steps, fits, oldest_path, step_path};
 
 use crate::folding::gather;
 use crate::support::FIRST_COMMIT;
@@ -43,7 +43,7 @@ pub fn oldest_path(steps: &[Step]) -> &str
 
 /// An object over the limit isn't read.
 fn fits(limit: u64, size: Option<u64>) -> Result<(), Refusal>
-    ensures means { Gives (λ u. u) result (fits limit size) }
+    ensures means { AnswersMeant (λ u. u) result (fits limit size) }
     ensures store { result ≡ Err Refusal.Store → ⊥ }
     ensures refusals { IfErr result ReadRefuses }
 {
@@ -64,7 +64,7 @@ fn read_bytes(
     path: &str,
     bytes: &[u8],
 ) -> Result<Commit, Refusal>
-    ensures means { Gives (λ commit. commit) result (meant path.now (reading_of bytes.now)) }
+    ensures means { AnswersMeant (λ commit. commit) result (meant path.now (reading_of bytes.now)) }
     ensures versions { IfOk result (λ commit. AllByRecursion HasVersionsInRange commit) }
     ensures store { result ≡ Err Refusal.Store → ⊥ }
     ensures refusals { IfErr result ReadRefuses }
@@ -86,7 +86,7 @@ fn read_object(
     path: &str,
     object: Option<Vec<u8>>,
 ) -> Result<Commit, Refusal>
-    ensures means { Gives (λ commit. commit) result (commit_of_object path.now (option_map (λ bytes. bytes.items) object)) }
+    ensures means { AnswersMeant (λ commit. commit) result (commit_of_object path.now (option_map (λ bytes. bytes.items) object)) }
     ensures versions { IfOk result (λ commit. AllByRecursion HasVersionsInRange commit) }
     ensures store { result ≡ Err Refusal.Store → ⊥ }
     ensures refusals { IfErr result ReadRefuses }
@@ -116,7 +116,7 @@ fn read_commit(
 ) -> Result<Commit, Refusal>
     ensures reads { OnlyReads (seen store.old) (seen store.new) result }
     ensures refusals { IfErr result ReadRefuses }
-    ensures means { IfTold (seen store.old) (λ events. Gives (λ commit. commit) result (commit_of_object path.now (content events path.now))) }
+    ensures means { IfTold (seen store.old) (λ events. AnswersMeant (λ commit. commit) result (commit_of_object path.now (content events path.now))) }
     ensures versions { IfOk result (λ commit. AllByRecursion HasVersionsInRange commit) }
 {
     let object = get_object(store, path)?;
@@ -134,7 +134,7 @@ fn read_within(
 ) -> Result<Commit, Refusal>
     ensures reads { OnlyReads (seen store.old) (seen store.new) result }
     ensures refusals { IfErr result ReadRefuses }
-    ensures means { IfTold (seen store.old) (λ events. size ≡ stored_size events path.now → Gives (λ commit. commit) result (commit_in events limit path.now)) }
+    ensures means { IfTold (seen store.old) (λ events. size ≡ stored_size events path.now → AnswersMeant (λ commit. commit) result (commit_at_path events limit path.now)) }
     ensures versions { IfOk result (λ commit. AllByRecursion HasVersionsInRange commit) }
 {
     match fits(limit, size) {
@@ -157,7 +157,7 @@ pub fn read_step(
 ) -> Result<Commit, Refusal>
     ensures reads { OnlyReads (seen store.old) (seen store.new) result }
     ensures refusals { IfErr result ReadRefuses }
-    ensures means { IfTold (seen store.old) (λ events. size ≡ stored_size events (step_path step.now) → Gives (λ commit. commit) result (commit_in events limit (step_path step.now))) }
+    ensures means { IfTold (seen store.old) (λ events. size ≡ stored_size events (step_path step.now) → AnswersMeant (λ commit. commit) result (commit_at_path events limit (step_path step.now))) }
     ensures versions { IfOk result (λ commit. AllByRecursion HasVersionsInRange commit) }
 {
     read_within(alloc, store, json, step_path(step), size, limit)
@@ -185,7 +185,7 @@ pub(crate) fn read_steps(
 ) -> Result<Vec<Action>, Refusal>
     ensures reads { OnlyReads (seen store.old) (seen store.new) result }
     ensures refusals { IfErr result (OpenRefuses None) }
-    ensures means { IfTold (seen store.old) (λ events. AreSized events steps.now sizes.now → Gives (λ found. reverse found.items) result (changes_read (commits_of events limit steps.now))) }
+    ensures means { IfTold (seen store.old) (λ events. AreSized events steps.now sizes.now → AnswersMeant (λ found. reverse found.items) result (changes_read (commits_of_steps events limit steps.now))) }
     ensures versions { IfOk result (λ found. AllByRecursion HasVersionsInRange (reverse found.items)) }
 {
     let mut found = Vec::new(alloc);

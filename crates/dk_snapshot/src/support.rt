@@ -1,6 +1,6 @@
 //! Which states are opened, and from which moment on their removed files are still told.
 ghost use Rattle.std.specs.Prelude.{◌≡◌, ◌≤ℤ◌, pos, Err, None, Some, IfErr, IfOk, IfSome};
-ghost use Rattle.dk_engine.specs.Answers.{Gives};
+ghost use Rattle.dk_engine.specs.Answers.{AnswersMeant};
 ghost use Rattle.dk_snapshot.specs.Refusals.{OpenRefuses};
 ghost use Rattle.dk_snapshot.specs.Support.{cut_before, cut_of, cut_unless, has_vectors, retention, unreadable};
 
@@ -77,7 +77,7 @@ fn cut_with(
     files: &TextMap<AddFile>,
     now: i64,
 ) -> Result<i64, Refusal>
-    ensures means { Gives (λ cut. cut) result (cut_unless (unreadable protocol.now files.now) (retention metadata.now) now) }
+    ensures means { AnswersMeant (λ cut. cut) result (cut_unless (unreadable protocol.now files.now) (retention metadata.now) now) }
     ensures store { result ≡ Err Refusal.Store → ⊥ }
     ensures refusals { IfErr result (OpenRefuses None) }
 {
@@ -100,7 +100,7 @@ pub(crate) fn cut_of(
     oldest: &str,
     now: i64,
 ) -> Result<i64, Refusal>
-    ensures means { Gives (λ cut. cut) result (cut_of oldest.now state.now now) }
+    ensures means { AnswersMeant (λ cut. cut) result (cut_of oldest.now state.now now) }
     ensures store { result ≡ Err Refusal.Store → ⊥ }
     ensures refusals { IfErr result (OpenRefuses None) }
 {

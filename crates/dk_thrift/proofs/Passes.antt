@@ -3,7 +3,7 @@ use Rattle.std.proofs.Common.{◌≡◌, ℕ, zero, suc, ◌+◌, ◌-◌, ◌<�
 use Rattle.std.proofs.lemmas.Bool.{leb-true, and_parts}
 use Rattle.std.proofs.Math.Numerals.{sub-one}
 use Rattle.dk_grammar.specs.Thrift.{◌>>=◌, field_at, is_id}
-use Rattle.dk_grammar.specs.Passed.{Rest, each, entry_passed, field_passed, fields_passed, value_passed, kind_of, element_passed, list_passed, map_passed, struct_passed}
+use Rattle.dk_grammar.specs.Passed.{Rest, each, entry_passed, field_passed, fields_passed, value_passed, kind_numbered, element_passed, list_passed, map_passed, struct_passed}
 use Rattle.dk_grammar.proofs.Fronts.{header_in_range}
 use Rattle.dk_grammar.specs.declared.thrift.Field.TheVariants.{End, Next}
 use Rattle.dk_grammar.specs.declared.thrift.Kind.{Kind}
@@ -46,10 +46,10 @@ module _ (pass : Kind → List ℕ → Rest) (n i : ℕ) (last : ℤ) (bytes : L
   pub fields_flaw : (flaw : Flaw) → field_at last bytes ≡ Err flaw → total ≡ Err flaw
   fields_flaw flaw e = fields_first ∙ rw e refl
 
-  pub value_flaw : (id : ℤ) (kind : ℕ) (behind : List ℕ) (flaw : Flaw) → field_at last bytes ≡ Ok (Next id kind, behind) → value_passed pass (kind_of kind) behind ≡ Err flaw → total ≡ Err flaw
+  pub value_flaw : (id : ℤ) (kind : ℕ) (behind : List ℕ) (flaw : Flaw) → field_at last bytes ≡ Ok (Next id kind, behind) → value_passed pass (kind_numbered kind) behind ≡ Err flaw → total ≡ Err flaw
   value_flaw id kind behind flaw e v = fields_first ∙ rw (e, v) refl
 
-  pub fields_go_on : (id : ℤ) (kind : ℕ) (behind next : List ℕ) → field_at last bytes ≡ Ok (Next id kind, behind) → value_passed pass (kind_of kind) behind ≡ Ok next
+  pub fields_go_on : (id : ℤ) (kind : ℕ) (behind next : List ℕ) → field_at last bytes ≡ Ok (Next id kind, behind) → value_passed pass (kind_numbered kind) behind ≡ Ok next
       → fields_passed pass (n - (i + 1)) id next ≡ total
   fields_go_on id kind behind next e v = sym (fields_first ∙ rw (e, v) refl)
 

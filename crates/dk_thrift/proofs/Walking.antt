@@ -6,7 +6,7 @@ use Rattle.dk_grammar.specs.declared.thrift.Field.{Field}
 use Rattle.dk_grammar.specs.declared.thrift.Field.TheVariants.{End, Next}
 use Rattle.dk_grammar.specs.declared.thrift.Flaw.{Flaw}
 use Rattle.dk_thrift.specs.Reading.{Reading, last_behind}
-use Rattle.dk_grammar.specs.Structs.{Listed, Meaning, under, field_then, fields_from}
+use Rattle.dk_grammar.specs.Structs.{FieldValues, Meaning, under, value_then_fields, fields_from}
 use Rattle.dk_thrift.specs.Walks.{after, Walks}
 
 left_over : (n i : ℕ) → i < n → n - i ≡ suc (n - (i + 1))
@@ -17,17 +17,17 @@ pub flaw_stays : {A B : Type 0} (r : Result A Flaw) (f : A → Result B Flaw) �
 flaw_stays (Ok x) f h = cc
 flaw_stays (Err flaw) f h = refl
 
-under_more : {V : Type 0} (done : Listed V) (id : ℤ) (value : Option V) (more : Listed V) → done ++ under id value more ≡ (done ++ under id value []) ++ more
+under_more : {V : Type 0} (done : FieldValues V) (id : ℤ) (value : Option V) (more : FieldValues V) → done ++ under id value more ≡ (done ++ under id value []) ++ more
 under_more done id None more = ap (λ xs. xs ++ more) (sym (append-nil done))
 under_more done id (Some x) more = sym (append_assoc done ((id, x) ∷ []) more)
 
-one_done : {V : Type 0} (done : Listed V) (id : ℤ) (value : Option V) (front : Front (Listed V))
+one_done : {V : Type 0} (done : FieldValues V) (id : ℤ) (value : Option V) (front : Front (FieldValues V))
     → after done (front >>= λ more. Ok (under id value more.0, more.1)) ≡ after (done ++ under id value []) front
 one_done done id value (Ok more) = ap (λ xs. Ok (xs, more.1)) (under_more done id value more.0)
 one_done done id value (Err flaw) = refl
 
-module _ {V X : Type 0} (meaning : Meaning V) (view : Listed V → X) (n i : ℕ) (old now : Reading) (x : X) (whole : Front (Listed V)) (h : i < n) (w : Walks meaning view (n - i) old now x whole) where
-  first : after w.done (field_at now.last now.rest >>= λ y. field_then meaning (fields_from meaning (n - (i + 1))) y.0 y.1) ≡ whole
+module _ {V X : Type 0} (meaning : Meaning V) (view : FieldValues V → X) (n i : ℕ) (old now : Reading) (x : X) (whole : Front (FieldValues V)) (h : i < n) (w : Walks meaning view (n - i) old now x whole) where
+  first : after w.done (field_at now.last now.rest >>= λ y. value_then_fields meaning (fields_from meaning (n - (i + 1))) y.0 y.1) ≡ whole
   first = ap (λ m. after w.done (fields_from meaning m now.last now.rest)) (sym (left_over n i h)) ∙ w.left
 
   pub header_flaw : (flaw : Flaw) → field_at now.last now.rest ≡ Err flaw → IsErr whole

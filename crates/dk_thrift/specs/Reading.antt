@@ -23,9 +23,9 @@ fault_of size (flaws.TooDeep left) = TooDeep (size - left)
 
 -- The call answers the value that the bytes left begin with, and the reader stands behind it; or it answers the fault, and
 -- the reader stands where it stood.
-abbrev pub Reads : {X Y : Type 0} → (X → Y) → Reading → Reading → Result X ThriftFault → Front Y → Type 0
-Reads view old new (Ok x) front = (front ≡ Ok (view x, new.rest)) × (new ≡ record old { rest = new.rest })
-Reads view old new (Err fault) front = IsErrAnd front (λ flaw. fault ≡ fault_of old.size flaw) × (new ≡ old)
+abbrev pub ReadsFront : {X Y : Type 0} → (X → Y) → Reading → Reading → Result X ThriftFault → Front Y → Type 0
+ReadsFront view old new (Ok x) front = (front ≡ Ok (view x, new.rest)) × (new ≡ record old { rest = new.rest })
+ReadsFront view old new (Err fault) front = IsErrAnd front (λ flaw. fault ≡ fault_of old.size flaw) × (new ≡ old)
 
 -- the last field behind a header
 abbrev pub last_behind : ℤ → Field → ℤ

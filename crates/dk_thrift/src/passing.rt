@@ -3,7 +3,7 @@
 //! Each value of a list or a map takes a byte at least, and so does each field, so a claimed count costs nothing that isn't there.
 
 ghost use Rattle.std.specs.Prelude.{◌≡◌, Err};
-ghost use Rattle.dk_grammar.specs.Passed.{each, element_passed, entry_passed, kind_of, list_passed, map_passed, passed_at, struct_passed, too_deep, value_passed};
+ghost use Rattle.dk_grammar.specs.Passed.{each, element_passed, entry_passed, kind_numbered, list_passed, map_passed, passed_at, struct_passed, too_deep, value_passed};
 ghost use Rattle.dk_thrift.specs.GivesFront.{GivesFront};
 
 use crate::numbers::{count, number};
@@ -24,7 +24,7 @@ pub fn pass(kind: u8, bytes: &[u8]) -> Result<&[u8], Flaw>
 }
 
 fn kind_of(kind: u8) -> Kind
-    ensures { result ≡ kind_of kind }
+    ensures { result ≡ kind_numbered kind }
 {
     match kind {
         0..=2 => Kind::Flag,

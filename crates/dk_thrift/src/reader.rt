@@ -38,7 +38,7 @@ impl<'a> Reader<'a> {
     ghost use Rattle.dk_grammar.specs.Structs.{number_meaning};
     ghost use Rattle.dk_grammar.specs.Passed.{passed_at};
     ghost use Rattle.dk_grammar.specs.Thrift.{binary_at, field_at, list_at, number_at, whole_at};
-    ghost use Rattle.dk_thrift.specs.Reading.{Reads, ReadsField, Skips};
+    ghost use Rattle.dk_thrift.specs.Reading.{ReadsFront, ReadsField, Skips};
 
     /// A reader at the start of a struct.
     pub fn new(bytes: &'a [u8]) -> Reader<'a>
@@ -80,7 +80,7 @@ impl<'a> Reader<'a> {
     ///
     /// `Short` comes exactly where the bytes end inside it, `BadType` with the place of its first byte exactly where it has more bits.
     pub fn varint(&mut self) -> Result<u64, ThriftFault>
-        ensures exact { Reads (λ n. n) self.old self.new result (number_at self.old.rest) }
+        ensures exact { ReadsFront (λ n. n) self.old self.new result (number_at self.old.rest) }
         ensures spelled { IfOk result (λ number. Spelled SpellsNumber self.old.rest number self.new.rest) }
     {
         match number(self.left) {
@@ -96,7 +96,7 @@ impl<'a> Reader<'a> {
     ///
     /// The faults are those of [`Reader::varint`].
     pub fn whole(&mut self) -> Result<i64, ThriftFault>
-        ensures exact { Reads (λ z. z) self.old self.new result (whole_at self.old.rest) }
+        ensures exact { ReadsFront (λ z. z) self.old self.new result (whole_at self.old.rest) }
         ensures spelled { IfOk result (λ value. Spelled SpellsWhole self.old.rest value self.new.rest) }
     {
         match whole(self.left) {
@@ -113,7 +113,7 @@ impl<'a> Reader<'a> {
     ///
     /// `Short` comes exactly where the bytes end before them, `BadType` exactly where the length has more than 64 bits.
     pub fn binary(&mut self) -> Result<&'a [u8], ThriftFault>
-        ensures exact { Reads (λ part. part.now) self.old self.new result (binary_at self.old.rest) }
+        ensures exact { ReadsFront (λ part. part.now) self.old self.new result (binary_at self.old.rest) }
         ensures spelled { IfOk result (λ part. Spelled SpellsBinary self.old.rest part.now self.new.rest) }
     {
         match binary(self.left) {
@@ -131,7 +131,7 @@ impl<'a> Reader<'a> {
     /// `Short` comes exactly where the bytes end inside it. `BadType` comes exactly where another byte names no kind, with its
     /// place, or the count has more than 32 bits, with that of its first byte.
     pub fn list(&mut self) -> Result<ListHead, ThriftFault>
-        ensures exact { Reads (λ head. head) self.old self.new result (list_at self.old.rest) }
+        ensures exact { ReadsFront (λ head. head) self.old self.new result (list_at self.old.rest) }
         ensures spelled { IfOk result (λ head. Spelled SpellsList self.old.rest head self.new.rest) }
     {
         match list(self.left) {
@@ -184,7 +184,7 @@ impl<'a> Reader<'a> {
     /// The value of a field of this kind, where it is a whole number of 16, 32 or 64 bits. A value of another kind is passed over,
     /// and there is `None`. The faults are those of [`Reader::whole`] and [`Reader::skip`].
     pub fn number(&mut self, kind: u8) -> Result<Option<i64>, ThriftFault>
-        ensures { Reads (λ number. number) self.old self.new result (number_meaning (pos 0) kind self.old.rest) }
+        ensures { ReadsFront (λ number. number) self.old self.new result (number_meaning (pos 0) kind self.old.rest) }
     {
         if 4 <= kind && kind <= 6 {
             return Ok(Some(self.whole()?));

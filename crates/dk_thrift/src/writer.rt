@@ -25,9 +25,9 @@ pub struct Writer {
 }
 
 impl Model for Writer {
-    ghost use Rattle.dk_thrift.specs.Writing.{Writing, structs_of};
+    ghost use Rattle.dk_thrift.specs.Writing.{WrittenSoFar, structs_of};
 
-    ghost Value = { Writing };
+    ghost Value = { WrittenSoFar };
 
     ghost view = { λ w. record { bytes = w.bytes.items; structs = structs_of w.current w.outer.items } };
 }
@@ -37,7 +37,7 @@ impl Writer {
     ghost use Rattle.dk_grammar.specs.Spelling.{binary_bytes, list_bytes, whole_bytes};
     ghost use Rattle.dk_grammar.specs.Thrift.{binary_at, is_kind, list_at, whole_at};
     ghost use Rattle.dk_grammar.specs.declared.thrift.Field.TheVariants.{End, Next};
-    ghost use Rattle.dk_thrift.specs.Writing.{IsFieldAgain, IsOpen, IsReadAgain, with_bytes, with_end, with_field, with_struct};
+    ghost use Rattle.dk_thrift.specs.Writing.{IsFieldAgain, IsOpen, IsReadAgain, with_bytes, with_end, with_field_header, with_struct};
 
     /// A writer at the start of a struct.
     pub fn new(alloc: Global) -> Writer
@@ -66,7 +66,7 @@ impl Writer {
     pub fn field(&mut self, id: i16, kind: u8) -> Result<(), AllocError>
         requires in_struct { IsOpen self.old }
         requires kind { IsTrue (is_kind kind) }
-        ensures written { OnOk result (self.new ≡ with_field id kind self.old) }
+        ensures written { OnOk result (self.new ≡ with_field_header id kind self.old) }
         ensures again { OnOk result (IsFieldAgain (Next id kind) self.old self.new) }
     {
         let last = self.current.unwrap();

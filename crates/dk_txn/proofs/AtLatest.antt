@@ -20,7 +20,7 @@ use Rattle.dk_txn.specs.declared.start.Start.{Start}
 use Rattle.dk_txn.specs.declared.transaction.Transaction.{Transaction}
 use Rattle.dk_txn.specs.Attempt.{last_version, after_snapshot, start_after, start, own_commit, commit_text, allowed, Writing, if_allowed, if_within, attempt_from, attempt}
 use Rattle.dk_txn.specs.Commits.{Commits, SaysHistory}
-use Rattle.dk_txn.specs.Transactions.{Outcome, if_headed, headed, oldest_of, and_also, rules_keep, may_come, to_write, outcome_after, outcome_at, reached_at, next_after, outcome, Concludes, IsTransacted, Transacts, Comes, ConcludesHistory}
+use Rattle.dk_txn.specs.Transactions.{Outcome, if_headed, headed, oldest_of, and_also, rules_keep, may_come, to_write, outcome_after, outcome_at, reached_at, next_from, outcome, Concludes, IsTransacted, Transacts, Comes, ConcludesHistory}
 use Rattle.dk_txn.proofs.Concluding.{at_version}
 use Rattle.dk_txn.proofs.Headed.{opened_headed}
 use Rattle.dk_txn.proofs.Next.{attempt_next}
@@ -31,7 +31,7 @@ use Rattle.dk_txn.proofs.Starts.{not_chosen}
 
 -- the version that comes next is the one after the latest, and the table there has begun if there was any
 record IsAtLatest (events : List Told) (from : Start) : Type 0 where
-  next : next_after from.version (latest events) ≡ from.version
+  next : next_from from.version (latest events) ≡ from.version
   heads : (path : List ℕ) → headed path from ≡ Ok tt
 
 at_once : (test : Bool) (heads : Result (Unit {0}) Refusal) → heads ≡ Ok tt → (if test then Ok tt else heads) ≡ Ok tt
@@ -50,7 +50,7 @@ started_at events limits now from is = by (latest events) refl is
         let found : last ≡ snapshot.version = last_read events limits usual_choice now last snapshot top opens in
         let value : last + 1 ≡ from.version = omega (arith, version, found) in
         record {
-          next = ap (next_after from.version) top ∙ omega (arith, value);
+          next = ap (next_from from.version) top ∙ omega (arith, value);
           heads = λ path. at_once (from.version == 0) (if_headed path from.before.protocol from.before.metadata)
               (subst (λ (s : TableState). if_headed path s.protocol s.metadata ≡ Ok tt) state (opened_headed events limits now last snapshot path top opens));
         }
@@ -64,7 +64,7 @@ started_at events limits now from is = by (latest events) refl is
         let same : ◌≡◌ {A = Result Start Refusal} (Ok (record { version = 0; before = _ })) (Ok from) = starts in
         let version : 0 ≡ from.version = cc in
         record {
-          next = ap (next_after from.version) top;
+          next = ap (next_from from.version) top;
           heads = λ path. subst (λ (v : ℕ). (if v == 0 then Ok tt else if_headed path from.before.protocol from.before.metadata) ≡ Ok tt) version refl;
         }
     by (Some last) top starts = at_last last (last == last_version) top starts

@@ -19,7 +19,7 @@ use Rattle.dk_txn.specs.declared.start.Start.{Start}
 use Rattle.dk_txn.specs.declared.transaction.Transaction.{Transaction}
 use Rattle.dk_txn.specs.Attempt.{last_version, commit_text, Writing, if_allowed, if_within}
 use Rattle.dk_txn.specs.Commits.{Commits, was_taken}
-use Rattle.dk_txn.specs.Transactions.{Reached, At_own, After, may_come, writing_at, Outcome, AlreadyCommitted, ToWrite, to_write, outcome_after, reached_at, next_after, outcome, prepared_as, IsSmall, Concludes}
+use Rattle.dk_txn.specs.Transactions.{Reached, At_own, After, may_come, writing_at, Outcome, AlreadyCommitted, ToWrite, to_write, outcome_after, reached_at, next_from, outcome, prepared_as, IsSmall, Concludes}
 use Rattle.dk_txn.proofs.NotAbove.{AtMost, free_above}
 use Rattle.dk_txn.proofs.Next.{within_is}
 
@@ -41,17 +41,17 @@ after_next t limits now next (Ok (After state conflict)) writing is =
     at_version (may_come t from conflict) limits.object next (commit_text t.id now t.actions.items) writing (is_written (writing_at t limits now from conflict) writing is)
 
 -- it is the one that comes next
-pub writes_next : (events : List Told) (limits : Limits) (t : Transaction) (now : ℤ) (writing : Writing) → outcome events limits t now ≡ Ok (ToWrite writing) → writing.0 ≡ next_after t.from.version (latest events)
+pub writes_next : (events : List Told) (limits : Limits) (t : Transaction) (now : ℤ) (writing : Writing) → outcome events limits t now ≡ Ok (ToWrite writing) → writing.0 ≡ next_from t.from.version (latest events)
 writes_next events limits t now writing is = by (nat_lt last_version next) is
   where
     next : ℕ
-    next = next_after t.from.version (latest events)
+    next = next_from t.from.version (latest events)
 
     by : (above : Bool) → (if above then Err (refusals.Limit which.Version last_version) else outcome_after t limits now next (reached_at events limits t next)) ≡ Ok (ToWrite writing) → writing.0 ≡ next
     by true meant = absurd (let no : ◌≡◌ {A = Result Outcome Refusal} (Err (refusals.Limit which.Version last_version)) (Ok (ToWrite writing)) = meant in cc)
     by false meant = after_next t limits now next (reached_at events limits t next) writing meant
 
-not_above : (from version : ℕ) (last : Option ℕ) → version ≡ next_after from last → AtMost version last → ⊥
+not_above : (from version : ℕ) (last : Option ℕ) → version ≡ next_from from last → AtMost version last → ⊥
 not_above from version None is most = most
 not_above from version (Some last) is most = omega (arith, is, most)
 

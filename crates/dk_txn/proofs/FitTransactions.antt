@@ -34,8 +34,8 @@ use Rattle.dk_txn.specs.declared.start.Start.{Start}
 use Rattle.dk_txn.specs.declared.transaction.Transaction.{Transaction}
 use Rattle.dk_txn.specs.Attempt.{last_version, unbuilt, unsupported, own_commit, commit_text, allowed, Writing, if_allowed, if_within}
 use Rattle.dk_txn.specs.Winners.{Since, Own, Others, since}
-use Rattle.dk_txn.specs.Transactions.{come_to, if_headed, headed, oldest_of, unless_conflict, and_also, may_come, writing_at, Outcome, AlreadyCommitted, ToWrite, to_write, outcome_after, reached_at, outcome_at, next_after, outcome, Comes}
-use Rattle.dk_txn.specs.TransactionHistory.{IsFit, snapshot_of, own_of}
+use Rattle.dk_txn.specs.Transactions.{come_to, if_headed, headed, oldest_of, unless_conflict, and_also, may_come, writing_at, Outcome, AlreadyCommitted, ToWrite, to_write, outcome_after, reached_at, outcome_at, next_from, outcome, Comes}
+use Rattle.dk_txn.specs.TransactionHistory.{FitsLog, snapshot_of, own_of}
 use Rattle.dk_txn.specs.WinnerLaws.{AreLater}
 use Rattle.dk_txn.specs.FitLaws.{IsNextOf, FitIsNext, FitComes}
 use Rattle.dk_txn.proofs.Concluding.{is_written, at_version}
@@ -59,7 +59,7 @@ all_steps commits zero state = refl
 all_steps [] (suc first) state = refl
 all_steps (commit ∷ commits) (suc first) state = all_steps commits first (steps state commit)
 
-module _ (events : List Told) (horizon : ℤ) (lawful : Lawful events horizon) (t : Transaction) (fit : IsFit events horizon t) where
+module _ (events : List Told) (horizon : ℤ) (lawful : Lawful events horizon) (t : Transaction) (fit : FitsLog events horizon t) where
   abbrev commits : List (List Action)
   commits = commits_of (history events)
 
@@ -122,11 +122,11 @@ module _ (events : List Told) (horizon : ℤ) (lawful : Lawful events horizon) (
 
   -- ---- the version that comes next
 
-  next_with : (last : Option ℕ) (next : ℕ) → next_version events ≡ next → last ≡ last_of next → next_after t.from.version last ≡ next_version events
-  next_with last zero is top = ap (next_after t.from.version) top ∙ (let low = within in omega (arith, is, low))
-  next_with last (suc before) is top = ap (next_after t.from.version) top ∙ (let low = within in omega (arith, is, low))
+  next_with : (last : Option ℕ) (next : ℕ) → next_version events ≡ next → last ≡ last_of next → next_from t.from.version last ≡ next_version events
+  next_with last zero is top = ap (next_from t.from.version) top ∙ (let low = within in omega (arith, is, low))
+  next_with last (suc before) is top = ap (next_from t.from.version) top ∙ (let low = within in omega (arith, is, low))
 
-  next_is : next_after t.from.version (latest events) ≡ next_version events
+  next_is : next_from t.from.version (latest events) ≡ next_version events
   next_is = next_with (latest events) (next_version events) refl (latest_is_last events horizon lawful)
 
   -- ---- what is to be written
@@ -245,7 +245,7 @@ module _ (events : List Told) (horizon : ℤ) (lawful : Lawful events horizon) (
 pub fit_is_next : FitIsNext
 fit_is_next events horizon limits t now writing lawful fit is = fit_next events horizon lawful t fit limits now writing is
 
-module _ (events : List Told) (horizon : ℤ) (limits : Limits) (t : Transaction) (now : ℤ) (lawful : Lawful events horizon) (fit : IsFit events horizon t) where
+module _ (events : List Told) (horizon : ℤ) (limits : Limits) (t : Transaction) (now : ℤ) (lawful : Lawful events horizon) (fit : FitsLog events horizon t) where
   -- whatever the own commit is called
   comes_as : (own : List Action) → ((writing : Writing) → IsNextOf events t now writing → own_of t events now ≡ own) → (meant : Result Outcome Refusal) → outcome events limits t now ≡ meant → Comes meant own events
   comes_as own same (Err refusal) is = tt

@@ -17,8 +17,8 @@ use Rattle.dk_lawful.specs.declared.segment.Segment.{Segment}
 use Rattle.dk_listing.specs.OfEvents.{stands_at, latest}
 use Rattle.dk_segment.specs.Chosen.{chosen}
 use Rattle.dk_snapshot.specs.declared.table.Snapshot.{Snapshot}
-use Rattle.dk_snapshot.specs.Opening.{usual_choice, opened, opened_chosen, snapshot_with, state_of, with_cut}
-use Rattle.dk_snapshot.specs.Steps.{commits_of, oldest_path}
+use Rattle.dk_snapshot.specs.Opening.{usual_choice, opened, opened_chosen, snapshot_with, state_of_commits, with_cut}
+use Rattle.dk_snapshot.specs.Steps.{commits_of_steps, oldest_path}
 use Rattle.dk_snapshot.specs.Support.{cut_of, cut_with}
 use Rattle.dk_txn.specs.Transactions.{if_headed}
 
@@ -39,13 +39,13 @@ module _ (events : List Told) (limits : Limits) (now : ℤ) (last : ℕ) (snapsh
       let at : state ≡ snapshot.state = cc in
       subst (λ (s : TableState). if_headed path s.protocol s.metadata ≡ Ok tt) at (cut_headed (oldest_path segment.steps) path state.protocol state.metadata state.files now cut is)
 
-  commits_are : (segment : Segment) (commits : Result (List (List Action)) Refusal) → snapshot_with last segment (state_of (oldest_path segment.steps) now commits) ≡ Ok snapshot → IsHeaded
+  commits_are : (segment : Segment) (commits : Result (List (List Action)) Refusal) → snapshot_with last segment (state_of_commits (oldest_path segment.steps) now commits) ≡ Ok snapshot → IsHeaded
   commits_are segment (Err refusal) opens = absurd (let no : ◌≡◌ {A = Result Snapshot Refusal} (Err refusal) (Ok snapshot) = opens in cc)
   commits_are segment (Ok commits) opens = cut_is segment (fold commits) (cut_of (oldest_path segment.steps) (fold commits) now) refl opens
 
   segment_is : (found : Result Segment Refusal) → opened_chosen events limits now last found ≡ Ok snapshot → IsHeaded
   segment_is (Err refusal) opens = absurd (let no : ◌≡◌ {A = Result Snapshot Refusal} (Err refusal) (Ok snapshot) = opens in cc)
-  segment_is (Ok segment) opens = commits_are segment (commits_of events limits.object segment.steps) opens
+  segment_is (Ok segment) opens = commits_are segment (commits_of_steps events limits.object segment.steps) opens
 
   pub opened_headed : latest events ≡ Some last → opened events limits None usual_choice now ≡ Ok snapshot → IsHeaded
   opened_headed top opens = segment_is (chosen (stands_at events) (standing events) last usual_choice) (rw top at opens)

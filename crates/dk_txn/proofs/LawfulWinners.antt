@@ -22,10 +22,10 @@ use Rattle.dk_lawful.proofs.Sound.{length_commits}
 use Rattle.dk_listing.specs.OfEvents.{stands_at}
 use Rattle.dk_listing.specs.Sizes.{stored_size}
 use Rattle.dk_snapshot.specs.Log.{commit_of_object, meant}
-use Rattle.dk_snapshot.specs.Steps.{commit_in, fits, if_fits}
+use Rattle.dk_snapshot.specs.Steps.{commit_at_path, fits, if_fits}
 use Rattle.dk_segment.specs.Walked.{unless_absent}
 use Rattle.dk_txn.specs.WinnerLaws.{OthersAreLater, OwnIsHad}
-use Rattle.dk_txn.specs.Winners.{commit_at, Since, Own, Others, before_later, winner, since_steps, since_sources, gone, or_gone}
+use Rattle.dk_txn.specs.Winners.{commit_at, Since, Own, Others, before_later_commits, winner, since_steps, since_sources, gone, or_gone}
 
 -- ---- one commit
 
@@ -45,7 +45,7 @@ module _ (events : List Told) (horizon : ℤ) (lawful : Lawful events horizon) (
   commits = commits_of (history events)
 
   -- a commit that is read by itself is the history's
-  commit_is : (version : ℕ) (place : Place) (commit : List Action) → version < 2 ^ 63 → commit_at events version ≡ Some place → commit_in events limit (place_path place) ≡ Ok commit → slice_get commits version ≡ Some commit
+  commit_is : (version : ℕ) (place : Place) (commit : List Action) → version < 2 ^ 63 → commit_at events version ≡ Some place → commit_at_path events limit (place_path place) ≡ Ok commit → slice_get commits version ≡ Some commit
   commit_is version place commit small is means =
       by (content events (place_path place)) refl (fits_passes (fits limit (stored_size events (place_path place))) (commit_of_object (place_path place) (content events (place_path place))) commit means)
     where
@@ -68,7 +68,7 @@ module _ (events : List Told) (horizon : ℤ) (lawful : Lawful events horizon) (
   module _ (version : ℕ) (place : Place) (small : version < 2 ^ 63) (there : commit_at events version ≡ Some place) where
     others_from : (commit : List Action) (said : Bool) (later : Result Since Refusal) (winners : List (List Action)) (count : ℕ) → slice_get commits version ≡ Some commit → list_any (says id) commit ≡ said
         → ((rest : List (List Action)) → later ≡ Ok (Others rest) → IsRunOf (suc version) count rest)
-        → (if said then Ok (Own version) else before_later commit later) ≡ Ok (Others winners) → IsRunOf version (suc count) winners
+        → (if said then Ok (Own version) else before_later_commits commit later) ≡ Ok (Others winners) → IsRunOf version (suc count) winners
     others_from commit true later winners count stands says_it go is = absurd (let no : ◌≡◌ {A = Result Since Refusal} (Ok (Own version)) (Ok (Others winners)) = is in cc)
     others_from commit false (Err refusal) winners count stands says_it go is = absurd (let no : ◌≡◌ {A = Result Since Refusal} (Err refusal) (Ok (Others winners)) = is in cc)
     others_from commit false (Ok (Own other)) winners count stands says_it go is = absurd (let no : ◌≡◌ {A = Result Since Refusal} (Ok (Own other)) (Ok (Others winners)) = is in cc)
@@ -77,7 +77,7 @@ module _ (events : List Told) (horizon : ℤ) (lawful : Lawful events horizon) (
         let behind : IsRunOf (suc version) count rest = go rest refl in
         subst (IsRunOf version (suc count)) same (record { run = (stands, says_it, behind.run); many = ap suc behind.many })
 
-    winner_from : (read : Result (List Action) Refusal) (later : Result Since Refusal) (winners : List (List Action)) (count : ℕ) → commit_in events limit (place_path place) ≡ read
+    winner_from : (read : Result (List Action) Refusal) (later : Result Since Refusal) (winners : List (List Action)) (count : ℕ) → commit_at_path events limit (place_path place) ≡ read
         → ((rest : List (List Action)) → later ≡ Ok (Others rest) → IsRunOf (suc version) count rest)
         → winner id version read later ≡ Ok (Others winners) → IsRunOf version (suc count) winners
     winner_from (Err refusal) later winners count means go is = absurd (let no : ◌≡◌ {A = Result Since Refusal} (Err refusal) (Ok (Others winners)) = is in cc)
@@ -101,7 +101,7 @@ module _ (events : List Told) (horizon : ℤ) (lawful : Lawful events horizon) (
       by None there gap found go = absurd (let no : ◌≡◌ {A = Option ℕ} (Some version) None = gap in cc)
       by (Some place) there gap found go =
           let next : version + 1 ≡ suc version = add-one version in
-          winner_from version place (omega (arith, small)) there (commit_in events limit (place_path place)) (since_steps events limit id (version + 1) (steps_from (commit_at events) (suc version) count)) winners count refl
+          winner_from version place (omega (arith, small)) there (commit_at_path events limit (place_path place)) (since_steps events limit id (version + 1) (steps_from (commit_at events) (suc version) count)) winners count refl
           (λ rest is_rest. go rest gap (ap (λ (v : ℕ). since_steps events limit id v (steps_from (commit_at events) (suc version) count)) (sym next) ∙ is_rest)) found
 
 -- ---- a run up to the end is all that is left
@@ -151,7 +151,7 @@ module _ (events : List Told) (horizon : ℤ) (lawful : Lawful events horizon) (
       (ratified, had, ap (list_any (says id)) actions ∙ says_it)
 
   -- the own commit that ends the reading
-  own_later : (commit : List Action) (later : Result Since Refusal) (at : ℕ) → before_later commit later ≡ Ok (Own at) → later ≡ Ok (Own at)
+  own_later : (commit : List Action) (later : Result Since Refusal) (at : ℕ) → before_later_commits commit later ≡ Ok (Own at) → later ≡ Ok (Own at)
   own_later commit (Ok (Own version)) at is = is
   own_later commit (Ok (Others rest)) at is = absurd (let no : ◌≡◌ {A = Result Since Refusal} (Ok (Others (commit ∷ rest))) (Ok (Own at)) = is in cc)
   own_later commit (Err refusal) at is = is
@@ -163,13 +163,13 @@ module _ (events : List Told) (horizon : ℤ) (lawful : Lawful events horizon) (
   one_later version at own = ((let low = own.0 in omega arith), own.1)
 
   own_said : (version at : ℕ) (commit : List Action) (said : Bool) (later : Result Since Refusal) → slice_get all_commits version ≡ Some commit → list_any (says id) commit ≡ said
-      → (later ≡ Ok (Own at) → IsOwn (suc version) at) → (if said then Ok (Own version) else before_later commit later) ≡ Ok (Own at) → IsOwn version at
+      → (later ≡ Ok (Own at) → IsOwn (suc version) at) → (if said then Ok (Own version) else before_later_commits commit later) ≡ Ok (Own at) → IsOwn version at
   own_said version at commit true later stands says_it go is =
       let same : version ≡ at = (let both : ◌≡◌ {A = Result Since Refusal} (Ok (Own version)) (Ok (Own at)) = is in cc) in
       ((omega (arith, same)), subst (λ (v : ℕ). HasId (history events) v id) same (has_of version commit stands says_it))
   own_said version at commit false later stands says_it go is = one_later version at (go (own_later commit later at is))
 
-  own_from : (version at : ℕ) (place : Place) (small : version < 2 ^ 63) (there : commit_at events version ≡ Some place) (read : Result (List Action) Refusal) (later : Result Since Refusal) → commit_in events limit (place_path place) ≡ read
+  own_from : (version at : ℕ) (place : Place) (small : version < 2 ^ 63) (there : commit_at events version ≡ Some place) (read : Result (List Action) Refusal) (later : Result Since Refusal) → commit_at_path events limit (place_path place) ≡ read
       → (later ≡ Ok (Own at) → IsOwn (suc version) at) → winner id version read later ≡ Ok (Own at) → IsOwn version at
   own_from version at place small there (Err refusal) later means go is = absurd (let no : ◌≡◌ {A = Result Since Refusal} (Err refusal) (Ok (Own at)) = is in cc)
   own_from version at place small there (Ok commit) later means go is =
@@ -188,7 +188,7 @@ module _ (events : List Told) (horizon : ℤ) (lawful : Lawful events horizon) (
       by None there gap found go = absurd (let no : ◌≡◌ {A = Option ℕ} (Some version) None = gap in cc)
       by (Some place) there gap found go =
           let next : version + 1 ≡ suc version = add-one version in
-          own_from version at place (omega (arith, small)) there (commit_in events limit (place_path place)) (since_steps events limit id (version + 1) (steps_from (commit_at events) (suc version) count)) refl
+          own_from version at place (omega (arith, small)) there (commit_at_path events limit (place_path place)) (since_steps events limit id (version + 1) (steps_from (commit_at events) (suc version) count)) refl
           (λ is_own. go gap (ap (λ (v : ℕ). since_steps events limit id v (steps_from (commit_at events) (suc version) count)) (sym next) ∙ is_own)) found
 
   -- ---- what came since

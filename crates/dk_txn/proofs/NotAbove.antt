@@ -7,7 +7,7 @@ use Rattle.dk_store.specs.Standings.{standing}
 use Rattle.dk_paths.specs.Names.{commit_path}
 use Rattle.dk_paths.specs.Places.{Commit_at}
 use Rattle.dk_listing.specs.OfEvents.{stands_at, latest}
-use Rattle.dk_snapshot.specs.LatestVersion.{names_of, lists_complete, is_version, IsLatest}
+use Rattle.dk_snapshot.specs.LatestVersion.{log_names, lists_complete, is_version, IsLatest}
 use Rattle.dk_snapshot.proofs.LatestVersion.{latest_is_greatest}
 
 -- there is a latest version, and it is at least this one
@@ -24,6 +24,6 @@ free_above events last version top small above = by (stands_at events (Commit_at
   where
     by : (there : Bool) → stands_at events (Commit_at version) ≡ there → IsNone (object events (commit_path version))
     by true there =
-        let is : is_version events version ≡ true = ap (λ (b : Bool). (b || lists_complete (names_of events) version) || is_some (standing events version)) there in
+        let is : is_version events version ≡ true = ap (λ (b : Bool). (b || lists_complete (log_names events) version) || is_some (standing events version)) there in
         absurd (above (greatest events last version (subst (IsLatest events) top (latest_is_greatest events)) small is))
     by false none = none

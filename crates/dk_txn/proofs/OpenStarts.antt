@@ -6,7 +6,7 @@ use Rattle.dk_engine.specs.declared.limits.Limits.{Limits}
 use Rattle.dk_engine.specs.declared.limits.Which.TheVariants as which
 use Rattle.dk_engine.specs.declared.refusal.Refusal.{Refusal}
 use Rattle.dk_engine.specs.declared.refusal.Refusal.TheVariants as refusals
-use Rattle.dk_engine.specs.Answers.{Gives, GivesBy}
+use Rattle.dk_engine.specs.Answers.{AnswersMeant, AnswersBy}
 use Rattle.dk_engine.proofs.Refused.{gives_by}
 use Rattle.dk_listing.specs.OfEvents.{latest}
 use Rattle.dk_snapshot.specs.declared.table.Snapshot.{Snapshot}
@@ -44,7 +44,7 @@ starts_as_one events limits now one other is also = after_one events limits now 
 
 -- what gives the value gives what it may be
 pub starts_told : {X : Type 0} (view : X → Start) (told : Option (List Told)) (limits : Limits) (now passed : ℤ) (result : Result X Refusal) → passed ≡ now
-    → IfSome told (λ events. Gives view result (start events limits passed)) → IfSome told (λ events. GivesBy view result (StartsAs events limits now))
+    → IfSome told (λ events. AnswersMeant view result (start events limits passed)) → IfSome told (λ events. AnswersBy view result (StartsAs events limits now))
 starts_told view None limits now passed result moment gives = tt
 starts_told view (Some events) limits now passed result moment gives =
     gives_by view result (start events limits passed) (StartsAs events limits now) gives

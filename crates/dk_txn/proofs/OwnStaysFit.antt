@@ -26,18 +26,18 @@ use Rattle.dk_txn.specs.declared.transaction.Transaction.{Transaction}
 use Rattle.dk_txn.specs.Attempt.{Writing}
 use Rattle.dk_txn.specs.Commits.{CommitRefuses, HistoryAfterRefusal}
 use Rattle.dk_txn.specs.Transactions.{Outcome, AlreadyCommitted, ToWrite, outcome, Concludes, Comes, ConcludesHistory, Remembers}
-use Rattle.dk_txn.specs.TransactionHistory.{actor_of, IsFit, own_of, CommitsOwn, SaysOwn}
+use Rattle.dk_txn.specs.TransactionHistory.{actor_of, FitsLog, own_of, CommitsOwn, SaysOwn}
 use Rattle.dk_txn.proofs.FitTransactions.{plain_of, fit_is_next, plain_comes, fit_had, stands_after}
 use Rattle.dk_txn.proofs.Lawfully.{nothing_added}
 
 -- ---- by the history alone
 
-module _ (events later : List Told) (horizon : ℤ) (t : Transaction) (fit : IsFit events horizon t) where
+module _ (events later : List Told) (horizon : ℤ) (t : Transaction) (fit : FitsLog events horizon t) where
   -- the answered version has the id
   abbrev HasAnswered : Option ℕ → Type 0
   HasAnswered answered = (version : ℕ) → answered ≡ Some version → HasId (history later) version (id_text t.id)
 
-  with_answer : (answered : Option ℕ) → actors.TransactionFits later horizon (record (actor_of t) { answered = answered }) → IsFit later horizon (record t { committed = answered })
+  with_answer : (answered : Option ℕ) → actors.TransactionFits later horizon (record (actor_of t) { answered = answered }) → FitsLog later horizon (record t { committed = answered })
   with_answer answered fits = record { fits = fits; empty = fit.empty }
 
   -- the history is as it was
@@ -95,7 +95,7 @@ module _ (events later : List Told) (horizon : ℤ) (t : Transaction) (fit : IsF
 
 module _ (events later : List Told) (limits : Limits) (t after : Transaction) (now : ℤ) (result : Result Committed Refusal) (fresh : t.committed ≡ None) (remembers : Remembers t result after)
     (keeps : Comes (outcome events limits t now) (plain_of t) events → StaysLawful events later)
-    (horizon : ℤ) (lawful : Lawful events horizon) (fit : IsFit events horizon t) where
+    (horizon : ℤ) (lawful : Lawful events horizon) (fit : FitsLog events horizon t) where
   lawful_later : Lawful later horizon
   lawful_later = (keeps (plain_comes events horizon limits t now lawful fit)).lawful horizon lawful
 
@@ -106,14 +106,14 @@ module _ (events later : List Told) (limits : Limits) (t after : Transaction) (n
   as_before remembered refusal is = subst (λ (r : Result Committed Refusal). Remembers t r after) is remembered
 
   -- a refusal
-  fit_same : IsSameHistory events later → after ≡ t → IsFit later horizon after
-  fit_same same is = subst (IsFit later horizon) (sym is) (with_answer events later horizon t fit t.committed (fits_same events later horizon t fit same t.committed (none_answered (history later))))
+  fit_same : IsSameHistory events later → after ≡ t → FitsLog later horizon after
+  fit_same same is = subst (FitsLog later horizon) (sym is) (with_answer events later horizon t fit t.committed (fits_same events later horizon t fit same t.committed (none_answered (history later))))
 
-  fit_more : HasOneMore (plain_of t) events later → StandsNowhere events (id_text t.id) → after ≡ t → IsFit later horizon after
+  fit_more : HasOneMore (plain_of t) events later → StandsNowhere events (id_text t.id) → after ≡ t → FitsLog later horizon after
   fit_more more nowhere is =
-      subst (IsFit later horizon) (sym is) (with_answer events later horizon t fit t.committed (fits_more events later horizon t fit more nowhere t.committed (none_answered (history later))))
+      subst (FitsLog later horizon) (sym is) (with_answer events later horizon t fit t.committed (fits_more events later horizon t fit more nowhere t.committed (none_answered (history later))))
 
-  fit_refused : (refusal : Refusal) → HistoryAfterRefusal refusal (plain_of t) events later → StandsNowhere events (id_text t.id) → after ≡ t → IsFit later horizon after
+  fit_refused : (refusal : Refusal) → HistoryAfterRefusal refusal (plain_of t) events later → StandsNowhere events (id_text t.id) → after ≡ t → FitsLog later horizon after
   fit_refused refusals.Store (inl same) nowhere is = fit_same same is
   fit_refused refusals.Store (inr more) nowhere is = fit_more more nowhere is
   fit_refused refusal same nowhere is = fit_same same is
@@ -129,8 +129,8 @@ module _ (events later : List Told) (limits : Limits) (t after : Transaction) (n
   answered_as : (version : ℕ) → result ≡ Ok (record { version = version }) → after ≡ record t { committed = Some version }
   answered_as version is = subst (λ (r : Result Committed Refusal). Remembers t r after) is remembers
 
-  fit_answered : (version : ℕ) → after ≡ record t { committed = Some version } → actors.TransactionFits later horizon (record (actor_of t) { answered = Some version }) → IsFit later horizon after
-  fit_answered version is fits = subst (IsFit later horizon) (sym is) (with_answer events later horizon t fit (Some version) fits)
+  fit_answered : (version : ℕ) → after ≡ record t { committed = Some version } → actors.TransactionFits later horizon (record (actor_of t) { answered = Some version }) → FitsLog later horizon after
+  fit_answered version is fits = subst (FitsLog later horizon) (sym is) (with_answer events later horizon t fit (Some version) fits)
 
   answer_has : (version : ℕ) → HasId (history later) version (id_text t.id) → (other : ℕ) → ◌≡◌ {A = Option ℕ} (Some version) (Some other) → HasId (history later) other (id_text t.id)
   answer_has version has other is = let same : version ≡ other = cc in subst (λ (v : ℕ). HasId (history later) v (id_text t.id)) same has
@@ -214,7 +214,7 @@ tells_again (Some events) (Some later) t after now version result is answers rem
     (record {
       lawful = subst (λ (es : List Told). Lawful es horizon) (sym at) lawful;
       history = inl (record { same = at; after = stands_after events horizon lawful t fit version has; has = has });
-      fit = subst (IsFit later horizon) (sym as_it_was)
+      fit = subst (FitsLog later horizon) (sym as_it_was)
           (with_answer events later horizon t fit (Some version)
           (fits_same events later horizon t fit (ap history at) (Some version)
           (λ other is_other. let same_version : version ≡ other = cc in

@@ -14,7 +14,7 @@ use Rattle.dk_engine.specs.declared.limits.Limits.{Limits}
 use Rattle.dk_engine.specs.declared.limits.Which.TheVariants as which
 use Rattle.dk_engine.specs.declared.refusal.Refusal.{Refusal}
 use Rattle.dk_engine.specs.declared.refusal.Refusal.TheVariants as refusals
-use Rattle.dk_engine.specs.Answers.{Refuses, Gives}
+use Rattle.dk_engine.specs.Answers.{Refuses, AnswersMeant}
 use Rattle.dk_engine.proofs.Refused.{refused_by_part, gives_same}
 use Rattle.dk_lawful.specs.declared.segment.Step.{Step}
 use Rattle.dk_listing.specs.declared.catalogued.Catalogued.{Catalogued}
@@ -33,7 +33,7 @@ use Rattle.dk_txn.proofs.Starts.{chosen, not_chosen}
 use Rattle.dk_txn.proofs.Written.{allowed_reads}
 use Rattle.dk_txn.specs.Attempt.{last_version, own_commit, commit_text, allowed, Writing, if_allowed, if_within}
 use Rattle.dk_txn.specs.Winners.{Since, Own, Others, gone, or_gone, since_steps, since_sources, sources, commit_at, AreWinners}
-use Rattle.dk_txn.specs.Transactions.{Reached, After, come_to, headed, oldest_of, unless_conflict, and_also, rules_keep, may_come, reached, writing_at, Outcome, ToWrite, to_write, outcome_after, reached_by, reached_at, outcome_at, next_after, outcome}
+use Rattle.dk_txn.specs.Transactions.{Reached, After, come_to, headed, oldest_of, unless_conflict, and_also, rules_keep, may_come, reached_view, writing_at, Outcome, ToWrite, to_write, outcome_after, reached_by_steps, reached_at, outcome_at, next_from, outcome}
 
 -- ---- a winner that is missing is gone
 
@@ -50,18 +50,18 @@ module _ (limits : Limits) (t : Transaction) (state : TableState) (found : List 
   abbrev read : List Told → Result Reached Refusal
   read events = come_to t.reads own t.from.version state None (since_steps events limits.object id t.from.version found)
 
-  read_is : (events : List Told) → or_gone (read events) ≡ reached_by events limits t state found
+  read_is : (events : List Told) → or_gone (read events) ≡ reached_by_steps events limits t state found
   read_is events = ap₂ (λ (o : List Action) (i : List ℕ). or_gone (come_to t.reads o t.from.version state None (since_steps events limits.object i t.from.version found))) own_is id_is
 
   pub reach_refused : (told : Option (List Told)) (refusal result : Refusal) → result ≡ gone refusal → IfSome told (λ events. AreSized events found sizes → Refuses refusal (read events))
-      → IfSome told (λ events. AreSized events found sizes → Refuses result (reached_by events limits t state found))
+      → IfSome told (λ events. AreSized events found sizes → Refuses result (reached_by_steps events limits t state found))
   reach_refused None refusal result is means = tt
   reach_refused (Some events) refusal result is means = λ sized.
-      subst (λ (r : Refusal). Refuses r (reached_by events limits t state found)) (sym is)
+      subst (λ (r : Refusal). Refuses r (reached_by_steps events limits t state found)) (sym is)
       (subst (λ (m : Result Reached Refusal). Refuses (gone refusal) m) (read_is events) (gone_by_part or_gone (λ r. refl) refusal (read events) (means sized)))
 
   pub reach_found : (told : Option (List Told)) (what : Reached) → IfSome told (λ events. AreSized events found sizes → read events ≡ Ok what)
-      → IfSome told (λ events. AreSized events found sizes → reached_by events limits t state found ≡ Ok what)
+      → IfSome told (λ events. AreSized events found sizes → reached_by_steps events limits t state found ≡ Ok what)
   reach_found None what means = tt
   reach_found (Some events) what means = λ sized. sym (read_is events) ∙ ap or_gone (means sized)
 
@@ -78,7 +78,7 @@ module _ (events : List Told) (limits : Limits) (t : Transaction) where
   abbrev reached_from : Result (List Step) Refusal → Result Reached Refusal
   reached_from found = come_to t.reads t.actions.items t.from.version t.from.before None (or_gone (since_sources events limits.object (id_text t.id) t.from.version found))
 
-  by_steps : (next : ℕ) (found : List Step) → sources events t.from.version (next - t.from.version) ≡ Ok found → reached_by events limits t t.from.before found ≡ reached_at events limits t next
+  by_steps : (next : ℕ) (found : List Step) → sources events t.from.version (next - t.from.version) ≡ Ok found → reached_by_steps events limits t t.from.before found ≡ reached_at events limits t next
   by_steps next found is =
       sym (come_gone t.reads t.actions.items t.from.version t.from.before None (since_steps events limits.object (id_text t.id) t.from.version found))
       ∙ ap reached_from (sym is)
@@ -91,8 +91,8 @@ module _ (events : List Told) (limits : Limits) (t : Transaction) where
 
 -- with no winners it comes where it began
 pub none_next : {X : Type 0} (view : X → Outcome) (told : Option (List Told)) (listing : Catalogued) (limits : Limits) (t : Transaction) (now passed : ℤ) (next : ℕ) (result : Result X Refusal) → passed ≡ now → t.from.version ≡ next
-    → Gives view result (to_write (writing_at t limits passed t.from None))
-    → IfSome told (λ events. IsListingOf events listing → Gives view result (outcome_after t limits now next (reached_at events limits t next)))
+    → AnswersMeant view result (to_write (writing_at t limits passed t.from None))
+    → IfSome told (λ events. IsListingOf events listing → AnswersMeant view result (outcome_after t limits now next (reached_at events limits t next)))
 none_next view None listing limits t now passed next result moment same means = tt
 none_next view (Some events) listing limits t now passed next result moment same means = λ is.
     gives_same view result (to_write (writing_at t limits passed t.from None)) (outcome_after t limits now next (reached_at events limits t next))
@@ -102,12 +102,12 @@ none_next view (Some events) listing limits t now passed next result moment same
 -- the winners that are found, and what follows them
 pub winners_next : {X : Type 0} (view : X → Outcome) (told : Option (List Told)) (listing : Catalogued) (limits : Limits) (t : Transaction) (now passed : ℤ) (next : ℕ) (winners : Winners) (result : Result X Refusal) → passed ≡ now
     → ((events : List Told) → IsListingOf events listing → AreWinners events t.from.version (next - t.from.version) (Ok winners))
-    → IfSome told (λ events. AreSized events winners.steps.items winners.sizes.items → Gives view result (outcome_after t limits passed next (reached_by events limits t t.from.before winners.steps.items)))
-    → IfSome told (λ events. IsListingOf events listing → Gives view result (outcome_after t limits now next (reached_at events limits t next)))
+    → IfSome told (λ events. AreSized events winners.steps.items winners.sizes.items → AnswersMeant view result (outcome_after t limits passed next (reached_by_steps events limits t t.from.before winners.steps.items)))
+    → IfSome told (λ events. IsListingOf events listing → AnswersMeant view result (outcome_after t limits now next (reached_at events limits t next)))
 winners_next view None listing limits t now passed next winners result moment found means = tt
 winners_next view (Some events) listing limits t now passed next winners result moment found means = λ is.
     let are = found events is in
-    gives_same view result (outcome_after t limits passed next (reached_by events limits t t.from.before winners.steps.items)) (outcome_after t limits now next (reached_at events limits t next))
+    gives_same view result (outcome_after t limits passed next (reached_by_steps events limits t t.from.before winners.steps.items)) (outcome_after t limits now next (reached_at events limits t next))
     (ap₂ (λ (n : ℤ) (r : Result Reached Refusal). outcome_after t limits n next r) moment (by_steps events limits t next winners.steps.items are.0)) (means are.1)
 
 pub winners_gone : (told : Option (List Told)) (listing : Catalogued) (limits : Limits) (t : Transaction) (now : ℤ) (next : ℕ) (refusal result : Refusal) → result ≡ gone refusal
@@ -123,20 +123,20 @@ winners_gone (Some events) listing limits t now next refusal result is_gone foun
 
 -- all that was reached are commits of others
 pub after_others : {X : Type 0} (view : X → Outcome) (told : Option (List Told)) (limits : Limits) (t : Transaction) (now passed : ℤ) (next : ℕ) (state after : TableState) (found : List Step) (sizes : List (Option ℕ)) (what : Found) (conflict : Option (ℕ × Kind)) (result : Result X Refusal) → passed ≡ now → state ≡ t.from.before → what ≡ founds.Others conflict
-    → IfSome told (λ events. AreSized events found sizes → reached_by events limits t state found ≡ Ok (reached after what))
-    → Gives view result (to_write (writing_at t limits passed (record { version = next; before = after }) conflict))
-    → IfSome told (λ events. AreSized events found sizes → Gives view result (outcome_after t limits now next (reached_by events limits t t.from.before found)))
+    → IfSome told (λ events. AreSized events found sizes → reached_by_steps events limits t state found ≡ Ok (reached_view after what))
+    → AnswersMeant view result (to_write (writing_at t limits passed (record { version = next; before = after }) conflict))
+    → IfSome told (λ events. AreSized events found sizes → AnswersMeant view result (outcome_after t limits now next (reached_by_steps events limits t t.from.before found)))
 after_others view None limits t now passed next state after found sizes what conflict result moment same others reaches means = tt
 after_others view (Some events) limits t now passed next state after found sizes what conflict result moment same others reaches means = λ sized.
-    gives_same view result (to_write (writing_at t limits passed (record { version = next; before = after }) conflict)) (outcome_after t limits now next (reached_by events limits t t.from.before found))
+    gives_same view result (to_write (writing_at t limits passed (record { version = next; before = after }) conflict)) (outcome_after t limits now next (reached_by_steps events limits t t.from.before found))
     (ap (λ (n : ℤ). to_write (writing_at t limits n (record { version = next; before = after }) conflict)) moment
-    ∙ ap (outcome_after t limits now next) (sym (ap (λ (s : TableState). reached_by events limits t s found) (sym same) ∙ reaches sized ∙ ap (λ (f : Found). Ok (reached after f)) others))) means
+    ∙ ap (outcome_after t limits now next) (sym (ap (λ (s : TableState). reached_by_steps events limits t s found) (sym same) ∙ reaches sized ∙ ap (λ (f : Found). Ok (reached_view after f)) others))) means
 
 -- ---- by the listing
 
-module _ (limits : Limits) (t : Transaction) (now : ℤ) (listing : Catalogued) (last : Option ℕ) (next : ℕ) (is_latest : last ≡ latest_of listing) (is_next : next ≡ next_after t.from.version last) where
+module _ (limits : Limits) (t : Transaction) (now : ℤ) (listing : Catalogued) (last : Option ℕ) (next : ℕ) (is_latest : last ≡ latest_of listing) (is_next : next ≡ next_from t.from.version last) where
   outcome_is : (events : List Told) → IsListingOf events listing → outcome events limits t now ≡ outcome_at events limits t now next
-  outcome_is events is = ap (outcome_at events limits t now) (ap (next_after t.from.version) (sym (latest_standing events listing is) ∙ sym is_latest) ∙ sym is_next)
+  outcome_is events is = ap (outcome_at events limits t now) (ap (next_from t.from.version) (sym (latest_standing events listing is) ∙ sym is_latest) ∙ sym is_next)
 
   pub no_next : (told : Option (List Told)) → nat_lt last_version next ≡ true
       → IfSome told (λ events. IsListingOf events listing → outcome events limits t now ≡ Err (refusals.Limit which.Version last_version))
@@ -145,8 +145,8 @@ module _ (limits : Limits) (t : Transaction) (now : ℤ) (listing : Catalogued) 
       outcome_is events is ∙ chosen (nat_lt last_version next) (Err (refusals.Limit which.Version last_version)) (outcome_after t limits now next (reached_at events limits t next)) above
 
   pub listed_next : {X : Type 0} (view : X → Outcome) (told : Option (List Told)) (passed : ℤ) (result : Result X Refusal) → passed ≡ now → nat_lt last_version next ≡ false
-      → IfSome told (λ events. IsListingOf events listing → Gives view result (outcome_after t limits passed next (reached_at events limits t next)))
-      → IfSome told (λ events. IsListingOf events listing → Gives view result (outcome events limits t now))
+      → IfSome told (λ events. IsListingOf events listing → AnswersMeant view result (outcome_after t limits passed next (reached_at events limits t next)))
+      → IfSome told (λ events. IsListingOf events listing → AnswersMeant view result (outcome events limits t now))
   listed_next view None passed result moment within means = tt
   listed_next view (Some events) passed result moment within means = λ is.
       gives_same view result (outcome_after t limits passed next (reached_at events limits t next)) (outcome events limits t now)
@@ -168,11 +168,11 @@ survey_refused (Some events) limits t now refusal found = refused_survey events 
 
 pub survey_found : {X : Type 0} (view : X → Outcome) (told mid : Option (List Told)) (limits : Limits) (t : Transaction) (now passed : ℤ) (listing : Catalogued) (result : Result X Refusal) → passed ≡ now → mid ≡ told
     → IfSome told (λ events. IsListingOf events listing)
-    → IfSome mid (λ events. IsListingOf events listing → Gives view result (outcome events limits t passed))
-    → IfSome told (λ events. Gives view result (outcome events limits t now))
+    → IfSome mid (λ events. IsListingOf events listing → AnswersMeant view result (outcome events limits t passed))
+    → IfSome told (λ events. AnswersMeant view result (outcome events limits t now))
 survey_found view None mid limits t now passed listing result moment still found means = tt
 survey_found view (Some events) mid limits t now passed listing result moment still found means =
-    let here : IsListingOf events listing → Gives view result (outcome events limits t passed) = rw still at means in
+    let here : IsListingOf events listing → AnswersMeant view result (outcome events limits t passed) = rw still at means in
     gives_same view result (outcome events limits t passed) (outcome events limits t now) (ap (λ (n : ℤ). outcome events limits t n) moment) (here found)
 
 -- ---- what is to be written
@@ -215,7 +215,7 @@ rules_refuse t from conflict own refusal same means =
     (subst (λ (o : List Action). Refuses refusal (allowed from o t.id)) same means)
 
 pub rules_pass : (t : Transaction) (from : Start) (conflict : Option (ℕ × Kind)) (own : List Action) (u : Unit {0}) (result : Result (Unit {0}) Refusal) → own ≡ t.actions.items → allowed from own t.id ≡ Ok u
-    → Gives (λ (v : Unit {0}). v) result (unless_conflict conflict) → Gives (λ (v : Unit {0}). v) result (rules_keep t from conflict)
+    → AnswersMeant (λ (v : Unit {0}). v) result (unless_conflict conflict) → AnswersMeant (λ (v : Unit {0}). v) result (rules_keep t from conflict)
 rules_pass t from conflict own u result same passes means =
     gives_same (λ (v : Unit {0}). v) result (unless_conflict conflict) (rules_keep t from conflict)
     (ap (λ (first : Result (Unit {0}) Refusal). and_also first (unless_conflict conflict)) (sym passes ∙ ap (λ (o : List Action). allowed from o t.id) same)) means

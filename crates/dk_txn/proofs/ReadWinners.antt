@@ -28,10 +28,10 @@ use Rattle.dk_listing.specs.Presence.{lists, ratified_name}
 use Rattle.dk_listing.specs.Sizes.{listed_size, stored_size}
 use Rattle.dk_segment.specs.Walked.{walked, unless_absent}
 use Rattle.dk_segment.proofs.Agree.{walked_standing}
-use Rattle.dk_snapshot.specs.Steps.{AreSized, commit_in, step_path}
+use Rattle.dk_snapshot.specs.Steps.{AreSized, commit_at_path, step_path}
 use Rattle.dk_snapshot.proofs.Segments.{walked_sized}
 use Rattle.dk_snapshot.proofs.StepReads.{size_of_step}
-use Rattle.dk_txn.specs.Winners.{Since, Own, Others, before_later, winner, since_steps, sources}
+use Rattle.dk_txn.specs.Winners.{Since, Own, Others, before_later_commits, winner, since_steps, sources}
 use Rattle.dk_txn.specs.Transactions.{At_own, After, Reached, come_to}
 
 -- ---- from where they are read
@@ -77,7 +77,7 @@ first_joined None version None later = refl
 
 module _ (reads : Reads) (own : List Action) where
   others_come : (version : ℕ) (state : TableState) (first : Option (ℕ × Kind)) (commit : List Action) (later : Result Since Refusal)
-      → come_to reads own version state first (before_later commit later)
+      → come_to reads own version state first (before_later_commits commit later)
       ≡ come_to reads own (version + 1) (steps state commit) (option_or first (first_in_the_way version (kind_of reads own commit) None)) later
   others_come version state first commit (Err refusal) = refl
   others_come version state first commit (Ok (Own at)) = refl
@@ -90,7 +90,7 @@ module _ (reads : Reads) (own : List Action) where
       ≡ come_to reads own (version + 1) (steps state commit) (option_or first (first_in_the_way version (kind_of reads own commit) None)) later
   other_comes id version state first commit later is = by (list_any (says id) commit) is
     where
-      by : (same : Bool) → same ≡ false → come_to reads own version state first (if same then Ok (Own version) else before_later commit later)
+      by : (same : Bool) → same ≡ false → come_to reads own version state first (if same then Ok (Own version) else before_later_commits commit later)
           ≡ come_to reads own (version + 1) (steps state commit) (option_or first (first_in_the_way version (kind_of reads own commit) None)) later
       by true said = absurd (true≢false said)
       by false said = others_come version state first commit later
@@ -100,7 +100,7 @@ module _ (reads : Reads) (own : List Action) where
       → come_to reads own version state first (winner id version (Ok commit) later) ≡ Ok (At_own version)
   own_comes id version state first commit later is = by (list_any (says id) commit) is
     where
-      by : (same : Bool) → same ≡ true → come_to reads own version state first (if same then Ok (Own version) else before_later commit later) ≡ Ok (At_own version)
+      by : (same : Bool) → same ≡ true → come_to reads own version state first (if same then Ok (Own version) else before_later_commits commit later) ≡ Ok (At_own version)
       by true said = refl
       by false said = absurd (true≢false (sym said))
 
@@ -123,7 +123,7 @@ read_none (Some events) limit id claims first found sizes start = λ reads own a
 
 -- the step at a place is the first that is left
 next_left : (events : List Told) (limit : ℕ) (id : List ℕ) (version : ℕ) (found : List Step) (place : ℕ) (step : Step) → place < length found → step ≡ get_or found place step
-    → since_steps events limit id version (drop place found) ≡ winner id version (commit_in events limit (step_path step)) (since_steps events limit id (version + 1) (drop (place + 1) found))
+    → since_steps events limit id version (drop place found) ≡ winner id version (commit_at_path events limit (step_path step)) (since_steps events limit id (version + 1) (drop (place + 1) found))
 next_left events limit id version found place step less is =
     let ahead : drop place found ≡ step ∷ drop (place + 1) found = drop-cons found place step less ∙ ap₂ (λ (s : Step) (n : ℕ). s ∷ drop n found) (sym is) (sym (add-one place)) in
     ap (since_steps events limit id version) ahead
@@ -134,10 +134,10 @@ module _ (limit : ℕ) (id : List ℕ) (claims : Claims) (first : ℕ) (found : 
   Left told = LeftToRead told limit id claims first found sizes start place state conflict
 
   abbrev Reads_as : List Told → List Action → Type 0
-  Reads_as events commit = size ≡ stored_size events (step_path step) → commit_in events limit (step_path step) ≡ Ok commit
+  Reads_as events commit = size ≡ stored_size events (step_path step) → commit_at_path events limit (step_path step) ≡ Ok commit
 
   -- what is left, by the meaning of its first commit
-  left_with : (events : List Told) (reads : Reads) (own : List Action) (meant : Result (List Action) Refusal) → commit_in events limit (step_path step) ≡ meant
+  left_with : (events : List Told) (reads : Reads) (own : List Action) (meant : Result (List Action) Refusal) → commit_at_path events limit (step_path step) ≡ meant
       → IsLeft events limit id reads own first found start place state conflict
       → come_to reads own first start None (since_steps events limit id first found)
       ≡ come_to reads own (first + place) state conflict (winner id (first + place) meant (since_steps events limit id (first + place + 1) (drop (place + 1) found)))
@@ -152,7 +152,7 @@ module _ (limit : ℕ) (id : List ℕ) (claims : Claims) (first : ℕ) (found : 
   read_more None mid commit newer newer_conflict same others state_is conflict_is left here = λ reads own are. tt
   read_more (Some events) mid commit newer newer_conflict same others state_is conflict_is left here = λ reads own are sized.
       let read : Reads_as events commit = rw same at here in
-      let means : commit_in events limit (step_path step) ≡ Ok commit = read (known ∙ size_of_step events found sizes place step less is sized) in
+      let means : commit_at_path events limit (step_path step) ≡ Ok commit = read (known ∙ size_of_step events found sizes place step less is sized) in
       let ahead : first + place + 1 ≡ first + (place + 1) = omega arith in
       let later : Result Since Refusal = since_steps events limit id (first + place + 1) (drop (place + 1) found) in
       left_with events reads own (Ok commit) means (left reads own are sized)
@@ -166,21 +166,21 @@ module _ (limit : ℕ) (id : List ℕ) (claims : Claims) (first : ℕ) (found : 
   read_own None mid commit same said left here = λ reads own are. tt
   read_own (Some events) mid commit same said left here = λ reads own are sized.
       let read : Reads_as events commit = rw same at here in
-      let means : commit_in events limit (step_path step) ≡ Ok commit = read (known ∙ size_of_step events found sizes place step less is sized) in
+      let means : commit_at_path events limit (step_path step) ≡ Ok commit = read (known ∙ size_of_step events found sizes place step less is sized) in
       left_with events reads own (Ok commit) means (left reads own are sized)
       ∙ own_comes reads own id (first + place) state conflict commit (since_steps events limit id (first + place + 1) (drop (place + 1) found)) said
 
   pub read_stop : (told mid : Option (List Told)) (refusal : Refusal) → mid ≡ told → Left told
-      → IfSome mid (λ events. size ≡ stored_size events (step_path step) → Refuses refusal (commit_in events limit (step_path step)))
+      → IfSome mid (λ events. size ≡ stored_size events (step_path step) → Refuses refusal (commit_at_path events limit (step_path step)))
       → (reads : Reads) (own : List Action) → AreClaims claims reads own
       → IfSome told (λ events. AreSized events found sizes → Refuses refusal (come_to reads own first start None (since_steps events limit id first found)))
   read_stop None mid refusal same left here = λ reads own are. tt
   read_stop (Some events) mid refusal same left here = λ reads own are sized.
-      let refused : size ≡ stored_size events (step_path step) → Refuses refusal (commit_in events limit (step_path step)) = rw same at here in
+      let refused : size ≡ stored_size events (step_path step) → Refuses refusal (commit_at_path events limit (step_path step)) = rw same at here in
       let later : Result Since Refusal = since_steps events limit id (first + place + 1) (drop (place + 1) found) in
       subst (λ (meant : Result Reached Refusal). Refuses refusal meant)
-      (sym (left_with events reads own (commit_in events limit (step_path step)) refl (left reads own are sized)))
-      (refused_by_part (λ (meant : Result (List Action) Refusal). come_to reads own (first + place) state conflict (winner id (first + place) meant later)) (λ r. refl) refusal (commit_in events limit (step_path step))
+      (sym (left_with events reads own (commit_at_path events limit (step_path step)) refl (left reads own are sized)))
+      (refused_by_part (λ (meant : Result (List Action) Refusal). come_to reads own (first + place) state conflict (winner id (first + place) meant later)) (λ r. refl) refusal (commit_at_path events limit (step_path step))
       (refused (known ∙ size_of_step events found sizes place step less is sized)))
 
 or_none : (conflict : Option (ℕ × Kind)) → option_or conflict None ≡ conflict

@@ -8,7 +8,7 @@ use Rattle.dk_engine.specs.declared.limits.Limits.{Limits}
 use Rattle.dk_engine.specs.declared.limits.Which.TheVariants as which
 use Rattle.dk_engine.specs.declared.refusal.Refusal.{Refusal}
 use Rattle.dk_engine.specs.declared.refusal.Refusal.TheVariants as refusals
-use Rattle.dk_engine.specs.Answers.{Refuses, Gives}
+use Rattle.dk_engine.specs.Answers.{Refuses, AnswersMeant}
 use Rattle.dk_engine.proofs.Refused.{refused_by_part, gives_same}
 use Rattle.dk_listing.specs.declared.catalogued.Catalogued.{Catalogued}
 use Rattle.dk_listing.specs.Latest.{latest_of}
@@ -83,16 +83,16 @@ refused_survey events limits now refusals.OutOfMemory found = tt
 refused_survey events limits now refusal found = absurd found
 
 pub survey_refused : (told : Option (List Told)) (limits : Limits) (now : ℤ) (refusal : Refusal) → IfSome told (λ events. Surveys events (Err refusal))
-    → IfSome told (λ events. Gives (λ (from : Start). from) (Err refusal) (start events limits now))
+    → IfSome told (λ events. AnswersMeant (λ (from : Start). from) (Err refusal) (start events limits now))
 survey_refused None limits now refusal found = tt
 survey_refused (Some events) limits now refusal found = refused_survey events limits now refusal found
 
 -- what is begun from the listing that a survey found is what a commit comes after
 pub survey_started : {X : Type 0} (view : X → Start) (told mid : Option (List Told)) (limits : Limits) (now passed : ℤ) (listing : Catalogued) (result : Result X Refusal) → passed ≡ now → mid ≡ told
     → IfSome told (λ events. IsListingOf events listing)
-    → IfSome mid (λ events. IsListingOf events listing → Gives view result (start events limits passed))
-    → IfSome told (λ events. Gives view result (start events limits now))
+    → IfSome mid (λ events. IsListingOf events listing → AnswersMeant view result (start events limits passed))
+    → IfSome told (λ events. AnswersMeant view result (start events limits now))
 survey_started view None mid limits now passed listing result moment still found starts = tt
 survey_started view (Some events) mid limits now passed listing result moment still found starts =
-    let here : IsListingOf events listing → Gives view result (start events limits passed) = rw still at starts in
+    let here : IsListingOf events listing → AnswersMeant view result (start events limits passed) = rw still at starts in
     gives_same view result (start events limits passed) (start events limits now) (ap (start events limits) moment) (here found)

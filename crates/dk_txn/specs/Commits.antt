@@ -16,24 +16,24 @@ use Rattle.dk_txn.specs.declared.commit.Committed.{Committed}
 use Rattle.dk_txn.specs.Attempt.{Writing}
 
 -- the one event Made of the version's path with that text, where nothing stood
-pub record AddsCommit (writing : Writing) (events : List Told) (later : Option (List Told)) : Type 0 where
+pub record AddsOwnCommit (writing : Writing) (events : List Told) (later : Option (List Told)) : Type 0 where
   pub free : IsNone (object events (commit_path writing.0))
   pub made : AddsMade (commit_path writing.0) writing.1 (Some events) later
 
 -- what is meant was written
-abbrev pub Writes : Result Writing Refusal → List Told → ℕ → Option (List Told) → Type 0
-Writes meant events version later = (text : List ℕ) × (meant ≡ Ok (version, text)) × AddsCommit (version, text) events later
+abbrev pub WritesMeant : Result Writing Refusal → List Told → ℕ → Option (List Told) → Type 0
+WritesMeant meant events version later = (text : List ℕ) × (meant ≡ Ok (version, text)) × AddsOwnCommit (version, text) events later
 
 -- A failed store may have taken what is meant. Any other refusal is the meaning's and adds nothing; that the path was taken comes never.
 abbrev pub CommitRefuses : Refusal → Result Writing Refusal → List Told → Option (List Told) → Type 0
-CommitRefuses refusals.Store meant events later = (later ≡ Some events) ⊎ ((version : ℕ) × Writes meant events version later)
+CommitRefuses refusals.Store meant events later = (later ≡ Some events) ⊎ ((version : ℕ) × WritesMeant meant events version later)
 CommitRefuses refusals.OutOfMemory meant events later = later ≡ Some events
 CommitRefuses (refusals.Taken path) meant events later = ⊥
 CommitRefuses refusal meant events later = (meant ≡ Err refusal) × (later ≡ Some events)
 
 -- what a commit did to the events that were told, by what is meant over them
 abbrev pub Commits : Result Writing Refusal → List Told → Result Committed Refusal → Option (List Told) → Type 0
-Commits meant events (Ok committed) later = Writes meant events committed.version later
+Commits meant events (Ok committed) later = WritesMeant meant events committed.version later
 Commits meant events (Err refusal) later = CommitRefuses refusal meant events later
 
 -- ---- clashes

@@ -14,7 +14,7 @@ use Rattle.dk_lawful.specs.Transacted.{transacted}
 use Rattle.dk_txn.specs.declared.transaction.Transaction.{Transaction}
 use Rattle.dk_txn.specs.Attempt.{Writing, attempt, own_commit}
 use Rattle.dk_txn.specs.Transactions.{ToWrite, outcome, Comes}
-use Rattle.dk_txn.specs.TransactionHistory.{IsFit, later_commits, own_of}
+use Rattle.dk_txn.specs.TransactionHistory.{FitsLog, later_commits, own_of}
 
 -- what is to be written is the next version of a table that no catalogue manages, keeps the rules after its commits, none of the commits since the snapshot is in its
 -- way, and its id stands nowhere yet. So far no commit says its time, so what the law has it commit is the line of its id and its actions.
@@ -27,12 +27,12 @@ pub record IsNextOf (events : List Told) (t : Transaction) (now : ℤ) (writing 
   pub nowhere : StandsNowhere events (id_text t.id)
 
 abbrev pub FitIsNext : Type 0
-FitIsNext = (events : List Told) (horizon : ℤ) (limits : Limits) (t : Transaction) (now : ℤ) (writing : Writing) → Lawful events horizon → IsFit events horizon t → outcome events limits t now ≡ Ok (ToWrite writing)
+FitIsNext = (events : List Told) (horizon : ℤ) (limits : Limits) (t : Transaction) (now : ℤ) (writing : Writing) → Lawful events horizon → FitsLog events horizon t → outcome events limits t now ≡ Ok (ToWrite writing)
     → IsNextOf events t now writing
 
 -- and so it may come next
 abbrev pub FitComes : Type 0
-FitComes = (events : List Told) (horizon : ℤ) (limits : Limits) (t : Transaction) (now : ℤ) → Lawful events horizon → IsFit events horizon t → Comes (outcome events limits t now) (own_of t events now) events
+FitComes = (events : List Told) (horizon : ℤ) (limits : Limits) (t : Transaction) (now : ℤ) → Lawful events horizon → FitsLog events horizon t → Comes (outcome events limits t now) (own_of t events now) events
 
 -- what is to be written over a lawful log by one that begins at its latest version is what the law has it commit at that moment
 abbrev pub AttemptsAreTransacted : Type 0

@@ -26,7 +26,7 @@ abbrev pub actor_of : Transaction → actors.Transaction
 actor_of t = record { id = t.id; snapshot = snapshot_of t.from; put = t.actions.items; own = None; answered = t.committed }
 
 -- it stands to the log as it should; without a snapshot it comes after nothing
-pub record IsFit (events : List Told) (horizon : ℤ) (t : Transaction) : Type 0 where
+pub record FitsLog (events : List Told) (horizon : ℤ) (t : Transaction) : Type 0 where
   pub fits : actors.TransactionFits events horizon (actor_of t)
   pub empty : t.from.version ≡ 0 → t.from.before ≡ empty_state
 
@@ -61,8 +61,8 @@ HistoryAfter t now (Err refusal) events later = HistoryAfterRefusal refusal (own
 pub record CommitsOwn (t after : Transaction) (now : ℤ) (result : Result Committed Refusal) (events later : List Told) (horizon : ℤ) : Type 0 where
   pub lawful : Lawful later horizon
   pub history : HistoryAfter t now result events later
-  pub fit : IsFit later horizon after
+  pub fit : FitsLog later horizon after
 
 -- on a lawful log with the transaction fit
 abbrev pub SaysOwn : Transaction → Transaction → ℤ → Result Committed Refusal → List Told → List Told → Type 0
-SaysOwn t after now result events later = (horizon : ℤ) → Lawful events horizon → IsFit events horizon t → CommitsOwn t after now result events later horizon
+SaysOwn t after now result events later = (horizon : ℤ) → Lawful events horizon → FitsLog events horizon t → CommitsOwn t after now result events later horizon

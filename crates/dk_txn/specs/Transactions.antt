@@ -67,9 +67,9 @@ come_to reads own version state first (Ok (Others winners)) = Ok (After (steps_o
 come_to reads own version state first (Err refusal) = Err refusal
 
 -- what the code found of them, beside the state that it made
-abbrev pub reached : TableState → Found → Reached
-reached state (found.Own version) = At_own version
-reached state (found.Others conflict) = After state conflict
+abbrev pub reached_view : TableState → Found → Reached
+reached_view state (found.Own version) = At_own version
+reached_view state (found.Others conflict) = After state conflict
 
 -- ---- whether it may come there
 
@@ -124,8 +124,8 @@ outcome_after t limits now next (Ok (After state conflict)) = to_write (writing_
 outcome_after t limits now next (Err refusal) = Err refusal
 
 -- by the steps of the winners, from a state on
-abbrev pub reached_by : List Told → Limits → Transaction → TableState → List Step → Result Reached Refusal
-reached_by events limits t state steps =
+abbrev pub reached_by_steps : List Told → Limits → Transaction → TableState → List Step → Result Reached Refusal
+reached_by_steps events limits t state steps =
     or_gone (come_to t.reads t.actions.items t.from.version state None (since_steps events limits.object (id_text t.id) t.from.version steps))
 
 abbrev pub reached_at : List Told → Limits → Transaction → ℕ → Result Reached Refusal
@@ -137,20 +137,20 @@ outcome_at events limits t now next =
     if nat_lt last_version next then Err (refusals.Limit which.Version last_version) else outcome_after t limits now next (reached_at events limits t next)
 
 -- the version that comes next: after the latest one, and not before the one after the snapshot
-abbrev pub next_after : ℕ → Option ℕ → ℕ
-next_after from None = from
-next_after from (Some last) = max from (last + 1)
+abbrev pub next_from : ℕ → Option ℕ → ℕ
+next_from from None = from
+next_from from (Some last) = max from (last + 1)
 
 -- what a commit over these events comes to, or why it is refused
 abbrev pub outcome : List Told → Limits → Transaction → ℤ → Result Outcome Refusal
-outcome events limits t now = outcome_at events limits t now (next_after t.from.version (latest events))
+outcome events limits t now = outcome_at events limits t now (next_from t.from.version (latest events))
 
-abbrev pub version_of : Outcome → ℕ
-version_of (AlreadyCommitted version) = version
-version_of (ToWrite writing) = writing.0
+abbrev pub version_of_outcome : Outcome → ℕ
+version_of_outcome (AlreadyCommitted version) = version
+version_of_outcome (ToWrite writing) = writing.0
 
 abbrev pub version_meant : Result Outcome Refusal → Result ℕ Refusal
-version_meant (Ok outcome) = Ok (version_of outcome)
+version_meant (Ok outcome) = Ok (version_of_outcome outcome)
 version_meant (Err refusal) = Err refusal
 
 -- what the code prepared
@@ -171,20 +171,20 @@ ReadsBack id actions (prepared.Writing writing) = commit_of writing.text.items �
 -- ---- what a commit did
 
 -- the version at which the own commit stands already
-abbrev pub AnswersVersion : ℕ → Result Committed Refusal → Type 0
-AnswersVersion version (Ok committed) = committed.version ≡ version
-AnswersVersion version (Err refusal) = Refuses refusal (Ok version)
+abbrev pub AnswersOwnVersion : ℕ → Result Committed Refusal → Type 0
+AnswersOwnVersion version (Ok committed) = committed.version ≡ version
+AnswersOwnVersion version (Err refusal) = Refuses refusal (Ok version)
 
 -- By what is meant over the events that were told: an own commit that stands is answered, with no event; else it is as with any commit.
 abbrev pub Concludes : Result Outcome Refusal → List Told → Result Committed Refusal → Option (List Told) → Type 0
-Concludes (Ok (AlreadyCommitted version)) events result later = AnswersVersion version result × (later ≡ Some events)
+Concludes (Ok (AlreadyCommitted version)) events result later = AnswersOwnVersion version result × (later ≡ Some events)
 Concludes (Ok (ToWrite writing)) events result later = Commits (Ok writing) events result later
 Concludes (Err refusal) events result later = Commits (Err refusal) events result later
 
 -- ---- a transaction that begins, puts and commits in one call
 
 -- it has read so much, is to commit these actions under this id, and began at the latest version
-pub record IsWhole (read : Reads) (own : List Action) (drawn : ℕ) (t : Transaction) : Type 0 where
+pub record IsBegunFor (read : Reads) (own : List Action) (drawn : ℕ) (t : Transaction) : Type 0 where
   pub reads : t.reads ≡ read
   pub actions : t.actions.items ≡ own
   pub id : t.id ≡ drawn
@@ -193,7 +193,7 @@ pub record IsWhole (read : Reads) (own : List Action) (drawn : ℕ) (t : Transac
 -- what was answered is what the commit of such a transaction comes to
 pub record IsTransacted (limits : Limits) (now : ℤ) (read : Reads) (own : List Action) (drawn : ℕ) (told : Option (List Told)) (result : Result Committed Refusal) (later : Option (List Told)) : Type 0 where
   pub transaction : Transaction
-  pub whole : IsWhole read own drawn transaction
+  pub whole : IsBegunFor read own drawn transaction
   pub begins : IfSome told (λ events. start events limits now ≡ Ok transaction.from)
   pub concludes : IfSome told (λ events. Concludes (outcome events limits transaction now) events result later)
 

@@ -14,7 +14,7 @@ use Rattle.dk_lawful.specs.Segments.{commit_place}
 use Rattle.dk_lawful.specs.Ids.{says}
 use Rattle.dk_listing.specs.OfEvents.{stands_at}
 use Rattle.dk_segment.specs.Walked.{walked}
-use Rattle.dk_snapshot.specs.Steps.{AreSized, commit_in, step_path}
+use Rattle.dk_snapshot.specs.Steps.{AreSized, commit_at_path, step_path}
 use Rattle.dk_txn.specs.declared.winners.Winners.{Winners}
 
 -- ---- where they are read from
@@ -35,20 +35,20 @@ pub data Since : Type 0 where
   Others : List (List Action) → Since
 
 -- a commit of another, before the later ones
-abbrev pub before_later : List Action → Result Since Refusal → Result Since Refusal
-before_later commit (Ok (Own version)) = Ok (Own version)
-before_later commit (Ok (Others later)) = Ok (Others (commit ∷ later))
-before_later commit (Err refusal) = Err refusal
+abbrev pub before_later_commits : List Action → Result Since Refusal → Result Since Refusal
+before_later_commits commit (Ok (Own version)) = Ok (Own version)
+before_later_commits commit (Ok (Others later)) = Ok (Others (commit ∷ later))
+before_later_commits commit (Err refusal) = Err refusal
 
 -- one commit, and what comes later; the own commit, which says the id, ends the reading, and so does a refusal
 abbrev pub winner : List ℕ → ℕ → Result (List Action) Refusal → Result Since Refusal → Result Since Refusal
-winner id version (Ok commit) later = if list_any (says id) commit then Ok (Own version) else before_later commit later
+winner id version (Ok commit) later = if list_any (says id) commit then Ok (Own version) else before_later_commits commit later
 winner id version (Err refusal) later = Err refusal
 
 -- the commits of these steps, the first of which is of this version
 abbrev pub since_steps : List Told → ℕ → List ℕ → ℕ → List Step → Result Since Refusal
 since_steps events limit id version [] = Ok (Others [])
-since_steps events limit id version (step ∷ steps) = winner id version (commit_in events limit (step_path step)) (since_steps events limit id (version + 1) steps)
+since_steps events limit id version (step ∷ steps) = winner id version (commit_at_path events limit (step_path step)) (since_steps events limit id (version + 1) steps)
 
 abbrev pub since_sources : List Told → ℕ → List ℕ → ℕ → Result (List Step) Refusal → Result Since Refusal
 since_sources events limit id first (Ok steps) = since_steps events limit id first steps

@@ -1,6 +1,6 @@
 //! What a commit is to write.
 ghost use Rattle.std.specs.Prelude.{IfErr, ◌≡◌, ℕ, Ok, Err, Some, IfOk};
-ghost use Rattle.dk_engine.specs.Answers.{Gives};
+ghost use Rattle.dk_engine.specs.Answers.{AnswersMeant};
 ghost use Rattle.dk_txn.specs.Attempt.{allowed, if_within, unbuilt, unsupported};
 ghost use Rattle.dk_txn.specs.Refusals.{CheckRefuses};
 
@@ -54,7 +54,7 @@ fn unbuilt(
 
 /// Tests whether a commit may come there: that the table is read and written, and then the rules.
 pub(crate) fn check(alloc: Global, from: &Start, actions: &[Action]) -> Result<(), Refusal>
-    ensures means { (id : ℕ) → Gives (λ u. u) result (allowed from.now actions.now id) }
+    ensures means { (id : ℕ) → AnswersMeant (λ u. u) result (allowed from.now actions.now id) }
     ensures store { result ≡ Err Refusal.Store → ⊥ }
     ensures refusals { IfErr result CheckRefuses }
 {
@@ -69,7 +69,7 @@ pub(crate) fn check(alloc: Global, from: &Start, actions: &[Action]) -> Result<(
 
 /// A text to write, unless it is greater than an object may be, in bytes.
 pub(crate) fn within(limit: u64, version: u64, text: Vec<u8>) -> Result<Writing, Refusal>
-    ensures means { Gives (λ w. (w.version, w.text.items)) result (if_within limit (version, text.items)) }
+    ensures means { AnswersMeant (λ w. (w.version, w.text.items)) result (if_within limit (version, text.items)) }
     ensures version { IfOk result (λ w. w.version ≡ version) }
     ensures text { IfOk result (λ w. w.text.items ≡ text.items) }
     ensures store { result ≡ Err Refusal.Store → ⊥ }

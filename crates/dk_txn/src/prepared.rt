@@ -3,10 +3,10 @@ ghost use Rattle.std.specs.Prelude.{IfErr, ◌≡◌, ◌≤◌, ◌<◌, ◌+�
 ghost use Rattle.dk_store.specs.Seen.{IfTold};
 ghost use Rattle.dk_engine.specs.Effects.{OnlyReads};
 ghost use Rattle.std.specs.Option.{ForSome};
-ghost use Rattle.dk_engine.specs.Answers.{Gives};
+ghost use Rattle.dk_engine.specs.Answers.{AnswersMeant};
 ghost use Rattle.dk_listing.specs.OfEvents.{IsListingOf};
 ghost use Rattle.dk_snapshot.specs.Steps.{AreSized};
-ghost use Rattle.dk_txn.specs.Transactions.{IsSmall, ReadsBack, headed, may_come, next_after, oldest_of, outcome, outcome_after, prepared_as, reached, reached_at, reached_by, rules_keep, to_write, unless_conflict, version_of, writing_at};
+ghost use Rattle.dk_txn.specs.Transactions.{IsSmall, ReadsBack, headed, may_come, next_from, oldest_of, outcome, outcome_after, prepared_as, reached_view, reached_at, reached_by_steps, rules_keep, to_write, unless_conflict, version_of_outcome, writing_at};
 ghost use Rattle.dk_txn.specs.Refusals.{CheckRefuses};
 
 use crate::attempt::{Writing, check, within};
@@ -35,7 +35,7 @@ pub(crate) enum Prepared {
 
 impl Prepared {
     pub(crate) fn version(&self) -> u64
-        ensures { result ≡ version_of (prepared_as self.now) }
+        ensures { result ≡ version_of_outcome (prepared_as self.now) }
     {
         match self {
             Prepared::AlreadyCommitted { version } => *version,
@@ -47,7 +47,7 @@ impl Prepared {
 /// The version that comes next: after the latest one, and not before the one after the snapshot.
 fn next_after(from: u64, latest: Option<u64>) -> u64
     requires { ForSome latest (λ last. last < 2 ^ 63) }
-    ensures { result ≡ next_after from latest }
+    ensures { result ≡ next_from from latest }
 {
     match latest {
         None => from,
@@ -67,7 +67,7 @@ fn oldest_of(segment: &Option<Segment>) -> &str
 
 /// A table that has begun has a protocol and metadata; else it is damaged as a whole, from its oldest object on.
 fn check_heads(alloc: Global, oldest: &str, from: &Start) -> Result<(), Refusal>
-    ensures means { Gives (λ u. u) result (headed oldest.now from.now) }
+    ensures means { AnswersMeant (λ u. u) result (headed oldest.now from.now) }
     ensures store { result ≡ Err Refusal.Store → ⊥ }
     ensures refusals { IfErr result CheckRefuses }
 {
@@ -85,7 +85,7 @@ fn check_heads(alloc: Global, oldest: &str, from: &Start) -> Result<(), Refusal>
 
 /// The first commit that is in the way refuses.
 fn check_conflict(conflict: Option<(u64, Kind)>) -> Result<(), Refusal>
-    ensures means { Gives (λ u. u) result (unless_conflict conflict) }
+    ensures means { AnswersMeant (λ u. u) result (unless_conflict conflict) }
     ensures store { result ≡ Err Refusal.Store → ⊥ }
     ensures refusals { IfErr result CheckRefuses }
 {
@@ -102,7 +102,7 @@ fn check_rules(
     from: &Start,
     conflict: Option<(u64, Kind)>,
 ) -> Result<(), Refusal>
-    ensures means { Gives (λ u. u) result (rules_keep transaction.now from.now conflict) }
+    ensures means { AnswersMeant (λ u. u) result (rules_keep transaction.now from.now conflict) }
     ensures store { result ≡ Err Refusal.Store → ⊥ }
     ensures refusals { IfErr result CheckRefuses }
 {
@@ -119,7 +119,7 @@ fn check_all(
     from: &Start,
     conflict: Option<(u64, Kind)>,
 ) -> Result<(), Refusal>
-    ensures means { Gives (λ u. u) result (may_come transaction.now from.now conflict) }
+    ensures means { AnswersMeant (λ u. u) result (may_come transaction.now from.now conflict) }
     ensures store { result ≡ Err Refusal.Store → ⊥ }
     ensures refusals { IfErr result CheckRefuses }
 {
@@ -139,7 +139,7 @@ fn writing_at(
     conflict: Option<(u64, Kind)>,
     now: i64,
 ) -> Result<Prepared, Refusal>
-    ensures means { Gives prepared_as result (to_write (writing_at transaction.now limits now from.now conflict)) }
+    ensures means { AnswersMeant prepared_as result (to_write (writing_at transaction.now limits now from.now conflict)) }
     ensures reads_back { IfOk result (ReadsBack transaction.now.id transaction.now.actions.items) }
     ensures small { from.now.version < 2 ^ 63 → IfOk result IsSmall }
     ensures store { result ≡ Err Refusal.Store → ⊥ }
@@ -171,7 +171,7 @@ fn reach(
     ensures reads { OnlyReads (seen store.old) (seen store.new) result }
     ensures refusals { IfErr result CheckRefuses }
     ensures means { IfTold (seen store.old) (λ events. AreSized events winners.now.steps.items winners.now.sizes.items
-        → Gives (reached state.new) result (reached_by events limits transaction.now state.old winners.now.steps.items)) }
+        → AnswersMeant (reached_view state.new) result (reached_by_steps events limits transaction.now state.old winners.now.steps.items)) }
 {
     let claims = Claims::new(alloc, &transaction.reads, &transaction.actions)?;
     let id = txn_id(alloc, transaction.id)?;
@@ -208,7 +208,7 @@ fn prepare_after(
     ensures reads { OnlyReads (seen store.old) (seen store.new) result }
     ensures refusals { IfErr result CheckRefuses }
     ensures means { IfTold (seen store.old) (λ events. AreSized events winners.now.steps.items winners.now.sizes.items
-        → Gives prepared_as result (outcome_after transaction.now limits now next (reached_by events limits transaction.now transaction.now.from.before winners.now.steps.items))) }
+        → AnswersMeant prepared_as result (outcome_after transaction.now limits now next (reached_by_steps events limits transaction.now transaction.now.from.before winners.now.steps.items))) }
     ensures reads_back { IfOk result (ReadsBack transaction.now.id transaction.now.actions.items) }
     ensures small { IfOk result IsSmall }
 {
@@ -242,7 +242,7 @@ fn prepare_next(
     ensures reads { OnlyReads (seen store.old) (seen store.new) result }
     ensures refusals { IfErr result CheckRefuses }
     ensures means { IfTold (seen store.old) (λ events. IsListingOf events listing.now
-        → Gives prepared_as result (outcome_after transaction.now limits now next (reached_at events limits transaction.now next))) }
+        → AnswersMeant prepared_as result (outcome_after transaction.now limits now next (reached_at events limits transaction.now next))) }
     ensures reads_back { IfOk result (ReadsBack transaction.now.id transaction.now.actions.items) }
     ensures small { IfOk result IsSmall }
 {
@@ -278,7 +278,7 @@ fn prepare_listed(
 ) -> Result<Prepared, Refusal>
     ensures reads { OnlyReads (seen store.old) (seen store.new) result }
     ensures refusals { IfErr result CheckRefuses }
-    ensures means { IfTold (seen store.old) (λ events. IsListingOf events listing.now → Gives prepared_as result (outcome events limits transaction.now now)) }
+    ensures means { IfTold (seen store.old) (λ events. IsListingOf events listing.now → AnswersMeant prepared_as result (outcome events limits transaction.now now)) }
     ensures reads_back { IfOk result (ReadsBack transaction.now.id transaction.now.actions.items) }
     ensures small { IfOk result IsSmall }
 {
@@ -303,7 +303,7 @@ pub(crate) fn prepare(
 ) -> Result<Prepared, Refusal>
     ensures reads { OnlyReads (seen store.old) (seen store.new) result }
     ensures refusals { IfErr result CheckRefuses }
-    ensures means { IfTold (seen store.old) (λ events. Gives prepared_as result (outcome events limits transaction.now now)) }
+    ensures means { IfTold (seen store.old) (λ events. AnswersMeant prepared_as result (outcome events limits transaction.now now)) }
     ensures reads_back { IfOk result (ReadsBack transaction.now.id transaction.now.actions.items) }
     ensures small { IfOk result IsSmall }
 {

@@ -3,7 +3,7 @@ ghost use Rattle.std.specs.Prelude.{IfErr, ◌<◌, ◌^◌, ◌+◌, Err, IfOk}
 ghost use Rattle.dk_store.specs.Seen.{IfTold};
 ghost use Rattle.dk_engine.specs.Effects.{OnlyReads};
 ghost use Rattle.std.specs.Option.{ForSome};
-ghost use Rattle.dk_engine.specs.Answers.{Gives};
+ghost use Rattle.dk_engine.specs.Answers.{AnswersMeant};
 ghost use Rattle.dk_listing.specs.OfEvents.{IsListingOf};
 ghost use Rattle.dk_txn.specs.Attempt.{start, start_of};
 ghost use Rattle.dk_txn.specs.Refusals.{BeginRefuses};
@@ -36,7 +36,7 @@ fn open_latest_listed(
 ) -> Result<Option<Snapshot>, Refusal>
     ensures reads { OnlyReads (seen store.old) (seen store.new) result }
     ensures refusals { IfErr result BeginRefuses }
-    ensures means { IfTold (seen store.old) (λ events. IsListingOf events listing.now → Gives start_of result (start events limits now)) }
+    ensures means { IfTold (seen store.old) (λ events. IsListingOf events listing.now → AnswersMeant start_of result (start events limits now)) }
     ensures small { IfOk result (λ snapshot. ForSome snapshot (λ s. s.version + 1 < 2 ^ 63)) }
 {
     let Some(latest) = listing.latest() else {
@@ -66,7 +66,7 @@ pub(crate) fn open_latest(
 ) -> Result<Option<Snapshot>, Refusal>
     ensures reads { OnlyReads (seen store.old) (seen store.new) result }
     ensures refusals { IfErr result BeginRefuses }
-    ensures means { IfTold (seen store.old) (λ events. Gives start_of result (start events limits now)) }
+    ensures means { IfTold (seen store.old) (λ events. AnswersMeant start_of result (start events limits now)) }
     ensures small { IfOk result (λ snapshot. ForSome snapshot (λ s. s.version + 1 < 2 ^ 63)) }
 {
     match survey(alloc, store) {

@@ -3,7 +3,7 @@ ghost use Rattle.std.specs.Prelude.{IfErr, ◌≡◌, ◌<◌, ◌^◌, ◌++◌
 ghost use Rattle.dk_store.specs.Seen.{IfTold};
 ghost use Rattle.dk_engine.specs.Effects.{MayPut, OnlyReads};
 ghost use Rattle.std.specs.Option.{ForSome};
-ghost use Rattle.dk_engine.specs.Answers.{Gives, GivesBy};
+ghost use Rattle.dk_engine.specs.Answers.{AnswersMeant, AnswersBy};
 ghost use Rattle.dk_lawful.specs.Kept.{IfBoth, KeepsLawful};
 ghost use Rattle.dk_txn.specs.Attempt.{own_commit, start, start_of};
 ghost use Rattle.dk_txn.specs.Commits.{CountsClash, RoseTwice, was_taken};
@@ -168,8 +168,8 @@ impl Transaction {
     ) -> Result<Transaction, Refusal>
         ensures reads { OnlyReads (seen store.old) (seen store.new) result }
         ensures refusals { IfErr result BeginRefuses }
-        ensures means { IfTold (seen store.old) (λ events. Gives (λ t. t.from) result (start events limits now)) }
-        ensures opens { IfTold (seen store.old) (λ events. GivesBy (λ t. t.from) result (StartsAs events limits now)) }
+        ensures means { IfTold (seen store.old) (λ events. AnswersMeant (λ t. t.from) result (start events limits now)) }
+        ensures opens { IfTold (seen store.old) (λ events. AnswersBy (λ t. t.from) result (StartsAs events limits now)) }
         ensures new { IfOk result (IsNew reads id) }
     {
         match open_latest(alloc, store, json, limits, now) {
@@ -204,7 +204,7 @@ impl Transaction {
     ) -> Result<u64, Refusal>
         ensures reads { OnlyReads (seen store.old) (seen store.new) result }
         ensures refusals { IfErr result CheckRefuses }
-        ensures means { IfTold (seen store.old) (λ events. Gives (λ version. version) result (version_meant (outcome events limits self.now now))) }
+        ensures means { IfTold (seen store.old) (λ events. AnswersMeant (λ version. version) result (version_meant (outcome events limits self.now now))) }
     {
         match prepare(alloc, store, json, limits, self, now) {
             Err(refusal) => Err(refusal),

@@ -9,12 +9,12 @@ ghost use Rattle.dk_model.specs.declared.action.Action.{Action};
 ghost use Rattle.dk_conflicts.specs.declared.reads.Reads.{Reads};
 ghost use Rattle.dk_conflicts.specs.Claims.{AreClaims};
 ghost use Rattle.dk_conflicts.specs.Conflicts.{first_in_the_way, kind_of};
-ghost use Rattle.dk_engine.specs.Answers.{Gives};
+ghost use Rattle.dk_engine.specs.Answers.{AnswersMeant};
 ghost use Rattle.dk_lawful.specs.Ids.{says};
 ghost use Rattle.dk_listing.specs.OfEvents.{IsListingOf};
 ghost use Rattle.dk_snapshot.specs.Steps.{AreSized};
 ghost use Rattle.dk_txn.specs.Winners.{AreWinners, gone, since_steps};
-ghost use Rattle.dk_txn.specs.Transactions.{come_to, reached};
+ghost use Rattle.dk_txn.specs.Transactions.{come_to, reached_view};
 ghost use Rattle.dk_segment.specs.Chosen.{ChooseRefuses};
 ghost use Rattle.dk_snapshot.specs.Refusals.{ReadRefuses};
 
@@ -149,7 +149,7 @@ pub(crate) fn read_winners(
     ensures refusals { IfErr result ReadRefuses }
     ensures means { (reads : Reads) (own : List Action) → AreClaims claims.now reads own → IfTold (seen store.old) (λ events.
         AreSized events winners.now.steps.items winners.now.sizes.items
-        → Gives (reached state.new) result (come_to reads own first state.old None (since_steps events limit id.now first winners.now.steps.items))) }
+        → AnswersMeant (reached_view state.new) result (come_to reads own first state.old None (since_steps events limit id.now first winners.now.steps.items))) }
 {
     let mut conflict = None;
     for place in 0..winners.steps.len() {

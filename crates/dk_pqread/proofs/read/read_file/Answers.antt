@@ -1,6 +1,6 @@
 use Rattle.std.proofs.Common.{◌≡◌, false, map, sym, ap, subst, ◌∙◌, arith}
 use Rattle.std.proofs.lemmas.Result.{err_from_is_err_and}
-use Rattle.dk_levels.specs.Solid.{IsReadable}
+use Rattle.dk_levels.specs.Solid.{AreReadable}
 use Rattle.dk_levels.proofs.Cuts.{projected_is_readable}
 use Rattle.dk_pqmeta.specs.View.{footer_view, group_view}
 use Rattle.dk_pqmodel.specs.Projection.{all_missing, projected_fields, projection}
@@ -57,7 +57,7 @@ read_groups-requires-clause-readable c =
     let wanted = fields_in c.args.wanted.now in
     let fields = (footer_view c.in_ok-footer.field-0.footer).fields in
     let same : plans_of c.deref-5.result.now ≡ projection wanted fields = ap plans_of c.deref-5.ensures.value ∙ c.in_ok-footer.ensures.2 in
-    subst (λ ps. all_missing ps ≡ false → IsReadable (projected_fields ps)) (sym same) (projected_is_readable wanted fields c.args.wanted.now.is_schema)
+    subst (λ ps. all_missing ps ≡ false → AreReadable (projected_fields ps)) (sym same) (projected_is_readable wanted fields c.args.wanted.now.is_schema)
 
 pub read_groups-requires-clause-distinct : goal.read_groups-requires-clause-distinct
 read_groups-requires-clause-distinct c =

@@ -8,7 +8,7 @@ use Rattle.dk_pqmodel.specs.FileMeans.{HasColumns}
 use Rattle.dk_pqmodel.specs.Fits.{AreTriplesOf}
 use Rattle.dk_pqmodel.specs.RowView.{rows_of}
 use Rattle.dk_pqmodel.specs.declared.row.Row.{Row}
-use Rattle.dk_pqread.specs.Meanings.{Refuses}
+use Rattle.dk_pqread.specs.Meanings.{RefusesMeaning}
 use Rattle.dk_pqread.specs.PlanView.{plans_of}
 use Rattle.dk_pqread.proofs.Shares.{empty_share, join_refused, joined_found, other_count, rows_counted, share_found}
 use Rattle.dk_pqread.proofs.rows.own_rows.Goals as goal
@@ -28,7 +28,7 @@ returns-in_err-rows c =
     let refused = joined_found (λ (v : Vec Row Global). rows_of v.items) (Err fault) _ columns said.found said.broken said.faults in
     rw (p.1, p.2)
     (join_refused c.args.before.now (plans_of c.args.plans.now) (group_view c.args.group.now) c.requires.distinct columns held fault
-    (subst (λ fs. Refuses fault (λ rows. AreTriplesOf fs rows columns)) c.requires.cut refused))
+    (subst (λ fs. RefusesMeaning fault (λ rows. AreTriplesOf fs rows columns)) c.requires.cut refused))
 
 pub returns-then-len-group : goal.returns-then-len-group
 returns-then-len-group c =

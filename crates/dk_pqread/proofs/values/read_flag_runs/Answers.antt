@@ -1,7 +1,7 @@
 use Rattle.std.proofs.Common.{◌<◌, sym, subst, arith}
 use Rattle.std.proofs.lemmas.List.Elements.{All-from_get_or}
 use Rattle.std.proofs.lemmas.Result.{err_from_is_err_and}
-use Rattle.dk_pqread.specs.Meanings.{HoldRuns, Refuses, Finds}
+use Rattle.dk_pqread.specs.Meanings.{HoldRuns, RefusesMeaning, Finds}
 use Rattle.dk_pqread.proofs.FlagKinds.{is_flag}
 use Rattle.dk_pqread.proofs.ValueReading.{values_in, AreInRuns, flag_runs_refused, flag_runs_found}
 use Rattle.dk_pqread.proofs.values.read_flag_runs.Goals as goal
@@ -10,7 +10,7 @@ pub returns-in_err-bits : goal.returns-in_err-bits
 returns-in_err-bits c =
     let p = err_from_is_err_and c.from_residual.result c.from_residual.ensures.1 in
     rw (p.1, p.2)
-    (subst (λ kind. Refuses c.in_err-bits.field-0.0 (AreInRuns kind c.args.count c.args.bytes.now)) (sym (is_flag c.args.kind c.if-ne.ensures))
+    (subst (λ kind. RefusesMeaning c.in_err-bits.field-0.0 (AreInRuns kind c.args.count c.args.bytes.now)) (sym (is_flag c.args.kind c.if-ne.ensures))
     (flag_runs_refused c.args.bytes.now c.args.count c.in-Some.runs.now c.in-Some._over.now (sym c.in-Some.ensures) c.in_err-bits.field-0.0 c.in_err-bits.ensures))
 
 pub returns : goal.returns

@@ -1,5 +1,5 @@
 use Rattle.std.proofs.Common.{map, sym, arith}
-use Rattle.dk_levels.specs.Borrowed.{triple_of}
+use Rattle.dk_levels.specs.Borrowed.{borrowed_triple}
 use Rattle.dk_pqwrite.specs.AddedLevels.{AddsLevels}
 use Rattle.dk_pqwrite.proofs.AddingLevels.{both_levels, no_levels}
 use Rattle.dk_pqwrite.proofs.BuildingPages.{definitions_within, repetitions_within}
@@ -8,15 +8,15 @@ use Rattle.dk_pqwrite.proofs.page.levels_of.Goals.{then-column-gt0+in_ok-repetit
 
 pub add_levels-requires-clause-within : goal.add_levels-requires-clause-within
 add_levels-requires-clause-within c =
-    rw (c.deref.ensures.value, c.in_ok-repetitions.ensures) (repetitions_within c.args.column (map triple_of c.args.triples.now) c.requires.full)
+    rw (c.deref.ensures.value, c.in_ok-repetitions.ensures) (repetitions_within c.args.column (map borrowed_triple c.args.triples.now) c.requires.full)
 
 pub add_levels-requires-2-clause-within : goal.add_levels-requires-2-clause-within
 add_levels-requires-2-clause-within c =
-    rw (c.deref-2.ensures.value, c.in_ok-definitions.ensures) (definitions_within c.args.column (map triple_of c.args.triples.now) c.requires.full)
+    rw (c.deref-2.ensures.value, c.in_ok-definitions.ensures) (definitions_within c.args.column (map borrowed_triple c.args.triples.now) c.requires.full)
 
 pub returns : goal.returns
 returns c =
-    let entries = map triple_of c.args.triples.now in
+    let entries = map borrowed_triple c.args.triples.now in
     let first : AddsLevels c.args.column.rep (map (λ e. e.repetition) entries) c.new-body.result.items c.if-column-gt0.body.items =
     elim c.if-column-gt0.branch [
       | then-column-gt0+in_ok-repetitions+in_ok-add_levels w ↦ rw (w.body-is, sym w.in_ok-repetitions.ensures, sym w.deref.ensures.value) w.in_ok-add_levels.ensures

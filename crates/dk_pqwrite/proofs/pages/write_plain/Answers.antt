@@ -1,6 +1,6 @@
 use Rattle.std.proofs.Common.{◌-◌, None, [], length, map, string_bytes, refl, sym, arith}
 use Rattle.std.proofs.lemmas.List.{length-map}
-use Rattle.dk_levels.specs.Borrowed.{triple_of}
+use Rattle.dk_levels.specs.Borrowed.{borrowed_triple}
 use Rattle.dk_pqwrite.specs.declared.chunk.Chunk.{Chunk}
 use Rattle.dk_pqwrite.proofs.WritingColumns.{grows, plain_written}
 use Rattle.dk_pqwrite.proofs.pages.write_plain.Goals as goal
@@ -21,6 +21,6 @@ returns-clause-written c =
       first_page = c.len-first_page.result;
       dictionary_page = None;
     } in
-    plain_written c.args.leaf.column (map triple_of triples) (map string_bytes c.args.leaf.path.items) chunk
-    (record { typed = c.physical_type.ensures.code; small = c.physical_type.ensures.small; count = sym (length-map triples triple_of); few = c.requires.few; names = refl })
+    plain_written c.args.leaf.column (map borrowed_triple triples) (map string_bytes c.args.leaf.path.items) chunk
+    (record { typed = c.physical_type.ensures.code; small = c.physical_type.ensures.small; count = sym (length-map triples borrowed_triple); few = c.requires.few; names = refl })
     c.args.out.now c.add_plain_page.new.out c.in_ok-add_plain_page.ensures c.len-first_page.ensures refl (rw (c.len-end.ensures, c.len-first_page.ensures) refl)

@@ -1,6 +1,6 @@
 use Rattle.std.proofs.Common.{rules, ◌≡◌, [], length, map, ap, ◌∙◌, arith}
 use Rattle.dk_pqmodel.proofs.Fitting.{fitting_rows_match}
-use Rattle.dk_levels.specs.Borrowed.{columns_of}
+use Rattle.dk_levels.specs.Borrowed.{borrowed_columns}
 use Rattle.dk_pqmodel.specs.FooterBytes.{magic}
 use Rattle.dk_pqmodel.specs.RowView.{rows_of}
 use Rattle.dk_pqmodel.specs.SchemaView.{fields_in}
@@ -23,7 +23,7 @@ write_columns-requires-clause-writable c =
     let fs = fields_in c.args.schema.now in
     let rows = rows_of c.args.rows.now in
     let read : c.deref.result.now ≡ c.in_ok-columns.columns.items = search rules in
-    let cut : columns_of c.deref.result.now ≡ triples fs rows = ap columns_of read ∙ c.in_ok-columns.ensures in
+    let cut : borrowed_columns c.deref.result.now ≡ triples fs rows = ap borrowed_columns read ∙ c.in_ok-columns.ensures in
     rw (c.in_ok-leaves.ensures, cut) (shredded_writable fs rows c.args.schema.now.is_schema c.requires.fit c.requires.light)
 
 pub returns : goal.returns
@@ -32,13 +32,13 @@ returns c =
     let rows = rows_of c.args.rows.now in
     let schema = c.args.schema.now.is_schema in
     let read : c.deref.result.now ≡ c.in_ok-columns.columns.items = search rules in
-    let cut : columns_of c.deref.result.now ≡ triples fs rows = ap columns_of read ∙ c.in_ok-columns.ensures in
+    let cut : borrowed_columns c.deref.result.now ≡ triples fs rows = ap borrowed_columns read ∙ c.in_ok-columns.ensures in
     let started : c.extend_from_slice.new.self.items ≡ magic = search rules in
     let chunks = c.in_ok-chunks.chunks in
     let before = c.write_columns.new.out.items in
     let bytes = c.end_file.new.bytes.items in
     let group : RowGroup = record { rows = length c.args.rows.now; size = _; chunks = chunks } in
-    let written = of_schema (file_columns (own_plans fs []) 0 0) (triples fs rows) (map leaf_view c.in_ok-leaves.leaves.items) (columns_of c.deref.result.now) chunks.items magic
+    let written = of_schema (file_columns (own_plans fs []) 0 0) (triples fs rows) (map leaf_view c.in_ok-leaves.leaves.items) (borrowed_columns c.deref.result.now) chunks.items magic
     c.extend_from_slice.new.self.items before c.in_ok-leaves.ensures cut started c.in_ok-chunks.ensures in
     record {
       means = file_means fs rows group _ before bytes schema (fitting_rows_match fs rows c.requires.fit) (rows_counted c.args.rows.now) written c.in_ok-end_file.ensures.ended;
