@@ -11,7 +11,7 @@ ghost use Rattle.dk_pqwrite.specs.DataPages.{HoldBoth};
 ghost use Rattle.dk_pqwrite.specs.FirstUses.{AreTheirs, texts_in};
 ghost use Rattle.dk_pqwrite.specs.HeaderBytes.{data_numbers, page_parts};
 ghost use Rattle.dk_pqwrite.specs.PlainValues.{ArePlain, plain_size};
-ghost use Rattle.dk_pqwrite.specs.Writable.{IsWritable};
+ghost use Rattle.dk_pqwrite.specs.Writable.{IsWritableColumn};
 ghost use Rattle.dk_pqwrite.specs.WrittenColumn.{leaf_column_at, leaf_of_kind, values_of_column};
 
 use crate::column::LeafColumn;
@@ -30,7 +30,7 @@ pub(crate) fn add_plain_page(
     column: LeafColumn,
     triples: &[BorrowedTriple<'_>],
 ) -> Result<(), AllocError>
-    requires { IsWritable (leaf_column_at [] column) (map borrowed_triple triples.now) }
+    requires { IsWritableColumn (leaf_column_at [] column) (map borrowed_triple triples.now) }
     ensures { OnOk result ((path : Path) → AddsBytes (λ bytes. IsDataV1 (leaf_column_at path column) None bytes (map borrowed_triple triples.now))
         (133 + 10 * length triples.now + plain_size (values_of_column (map borrowed_triple triples.now))) out.old.items out.new.items) }
 {
@@ -48,7 +48,7 @@ pub(crate) fn add_coded_page(
     triples: &[BorrowedTriple<'_>],
 ) -> Result<(), AllocError>
     requires kind { leaf_of_kind column.kind ≡ shape_chars }
-    requires writable { IsWritable (leaf_column_at [] column) (map borrowed_triple triples.now) }
+    requires writable { IsWritableColumn (leaf_column_at [] column) (map borrowed_triple triples.now) }
     requires places { AreTheirs (map (λ k. k.now) dictionary.now.texts.keys) dictionary.now.places.items (texts_in (map borrowed_triple triples.now)) }
     requires distinct { length dictionary.now.texts.keys ≤ 2 ^ 26 }
     ensures { OnOk result ((path : Path) → AddsBytes (λ bytes. IsDataV1 (leaf_column_at path column) (Some (map chars (map (λ k. k.now) dictionary.now.texts.keys))) bytes (map borrowed_triple triples.now))
@@ -96,7 +96,7 @@ fn levels_of(
     column: LeafColumn,
     triples: &[BorrowedTriple<'_>],
 ) -> Result<Vec<u8>, AllocError>
-    requires { IsWritable (leaf_column_at [] column) (map borrowed_triple triples.now) }
+    requires { IsWritableColumn (leaf_column_at [] column) (map borrowed_triple triples.now) }
     ensures { IfOk result (λ v. HoldBoth column (map borrowed_triple triples.now) v.items) }
 {
     let mut body = Vec::new(alloc);
