@@ -33,7 +33,10 @@ pub(crate) fn row_of(alloc: Global, line: &str) -> Result<Row> {
 
 /// The text under a key.
 fn text_at<'a>(row: &'a Value, key: &str) -> Result<&'a str> {
-    row.get(key).context("a part is absent")?.as_str().context("a text")
+    row.get(key)
+        .context("a part is absent")?
+        .as_str()
+        .context("a text")
 }
 
 fn file_of(alloc: Global, row: &Value) -> Result<Option<Vec<u8>>> {

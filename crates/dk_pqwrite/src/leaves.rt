@@ -164,11 +164,7 @@ fn add_entry<'a>(
 }
 
 /// Adds the key of a map, a text that is never null. The walk stands at the map's entries.
-fn add_key<'a>(
-    alloc: Global,
-    walk: &mut LeafWalk<'a>,
-    depth: Depth,
-) -> Result<(), AllocError>
+fn add_key<'a>(alloc: Global, walk: &mut LeafWalk<'a>, depth: Depth) -> Result<(), AllocError>
     ensures { OnOk result (AddsLeaves (one_leaf_column (walked_names walk.old.path.items ++ codes "key" ∷ []) LeafKind.Chars depth.rep depth.def) walk.old walk.new) }
 {
     walk.path.push("key")?;
