@@ -189,6 +189,12 @@ def file_of(nodes, rows, style=PLAIN):
 CASES = []
 
 
+def line(action):
+    if action == VECTOR:
+        return VECTOR
+    return json.dumps(action, sort_keys=True, separators=(",", ":"), ensure_ascii=False) + "\n"
+
+
 def case(name, data, wanted, limit=None):
     """A checkpoint of these bytes, or of none, that means these actions, or is refused by this text. `VECTOR` behind an action says that a
     deletion vector stands beside its file."""
@@ -197,11 +203,13 @@ def case(name, data, wanted, limit=None):
         row["file"] = data.hex()
     if limit is not None:
         row["limit"] = limit
-    if not isinstance(wanted, str):
-        wanted = "".join(action if isinstance(action, str) else json.dumps(action, sort_keys=True, separators=(",", ":"), ensure_ascii=False) + "\n"
-                         for action in wanted)
-    row["wanted"] = wanted
+    row["wanted"] = wanted if isinstance(wanted, str) else "".join(line(action) for action in wanted)
     CASES.append(row)
+
+
+def read(name, nodes, rows, wanted, style=PLAIN):
+    """A checkpoint of rows, laid out in this style."""
+    case(name, file_of(nodes, rows, style), wanted)
 
 
 VECTOR = "vector\n"
@@ -225,7 +233,8 @@ def removed(path, time=0, change=True):
     return {"remove": {"path": path, "deletionTimestamp": time, "dataChange": change}}
 
 
-TABLE_ACTION = {"metaData": {"id": "t", "format": {"provider": "parquet", "options": {}}, "schemaString": "{}", "partitionColumns": [], "configuration": {}}}
+TABLE_ACTION = {"metaData": {"id": "t", "format": {"provider": "parquet", "options": {}}, "schemaString": "{}", "partitionColumns": [],
+                             "configuration": {}}}
 VERSIONS = {"protocol": {"minReaderVersion": 1, "minWriterVersion": 2}}
 ROWS = [VERSIONS, {"remove": {"path": "a", "dataChange": False}}]
 ACTIONS = [VERSIONS, removed("a", 0, False)]
@@ -263,8 +272,11 @@ def whole_states():
             ("a row group for each row", Style(group_rows=1)),
             ("three row groups, a page for each row, and dictionaries", Style(dictionary=True, group_rows=3, page_rows=1)),
             ("three row groups, pages of two rows of the second version", Style(2, group_rows=3, page_rows=2))):
-        case("a whole state: " + name, file_of(ALL, rows, style), wanted)
-    case("fields and kinds in another order", file_of(turned_round(ALL), rows), wanted)
+        read("a whole state: " + name, ALL, rows, wanted, style)
+    read("fields and kinds in another order", turned_round(ALL), rows, wanted)
+    few = schema(add=[text("path"), leaf("size", "int64"), leaf("modificationTime", "int64")])
+    rows = [{"add": {"path": "f%d" % number, "size": number, "modificationTime": 5}} for number in range(40)]
+    read("forty row groups", few, rows, [added("f%d" % number, number) for number in range(40)], Style(2, group_rows=1))
 
 
 def turned_round(nodes):
@@ -287,16 +299,16 @@ def beside_the_text():
                     partitionValues_parsed={"day": 19000, "price": bytes(9), "moment": bytes(12)}),
             add_row("b", stats_parsed=full), add_row("c")]
     wanted = [added("a", values={"day": "2022-01-08"}, stats='{"numRecords":3}'), added("b"), added("c")]
-    case("statistics and partition values as groups of any types", file_of(nodes, rows), wanted)
+    read("statistics and partition values as groups of any types", nodes, rows, wanted)
     codecs = {path: 6 for path, _, _, _ in [leaf for node in nodes for leaf in node.leaves()] if "_parsed" in path[1]}
-    case("a codec of columns that aren't looked at", file_of(nodes, rows, Style(codecs=codecs)), wanted)
+    read("a codec of columns that aren't looked at", nodes, rows, wanted, Style(codecs=codecs))
     nodes = schema(add=ADD + [group("stats", leaf("numRecords", "int64"))])
-    case("statistics as a group, under the name of the text", file_of(nodes, [add_row("a")]), DAMAGED)
+    read("statistics as a group, under the name of the text", nodes, [add_row("a")], DAMAGED)
     nodes = schema(remove=REMOVE + [text_map("partitionValues"), leaf("size", "int64"), text_map("tags"), leaf("extendedFileMetadata", "flag"),
                                     leaf("baseRowId", "int64")])
     rows = [{"remove": {"path": "a", "deletionTimestamp": 8, "dataChange": False, "partitionValues": entries(day="1"), "size": 4,
                         "tags": entries(k=None), "extendedFileMetadata": True, "baseRowId": 3}}]
-    case("a remove with partition values, a size and tags", file_of(nodes, rows), [removed("a", 8, False)])
+    read("a remove with partition values, a size and tags", nodes, rows, [removed("a", 8, False)])
 
 
 def deletion_vectors():
@@ -306,63 +318,63 @@ def deletion_vectors():
     rest = {"pathOrInlineDv": "ab", "offset": 1, "sizeInBytes": 2, "cardinality": 3}
     rows = [add_row("a", deletionVector=dict(rest, storageType="u")), add_row("b"), add_row("c", deletionVector=rest),
             {"remove": {"path": "d", "deletionVector": dict(rest, storageType="u")}}]
-    case("deletion vectors, with and without a storage type", file_of(nodes, rows), [added("a"), VECTOR, added("b"), added("c"), removed("d")])
+    read("deletion vectors, with and without a storage type", nodes, rows, [added("a"), VECTOR, added("b"), added("c"), removed("d")])
     nodes = schema(add=ADD + [group("deletionVector", text("storageType", REQUIRED), leaf("maxRowIndex", "int64"))])
     rows = [add_row("a", deletionVector={"storageType": "p", "maxRowIndex": 4}), add_row("b", deletionVector={"storageType": ""})]
-    case("deletion vectors with a storage type that is required", file_of(nodes, rows), [added("a"), VECTOR, added("b"), VECTOR])
+    read("deletion vectors with a storage type that is required", nodes, rows, [added("a"), VECTOR, added("b"), VECTOR])
     nodes = schema(add=ADD + [group("deletionVector", leaf("cardinality", "int64"))])
-    case("a deletion vector of which no column is read", file_of(nodes, [add_row("a", deletionVector={"cardinality": 1})]), [added("a")])
+    read("a deletion vector of which no column is read", nodes, [add_row("a", deletionVector={"cardinality": 1})], [added("a")])
 
 
 def other_schemas():
-    must = schema(add=[text("path", REQUIRED), text_map("partitionValues"), leaf("size", "int64", REQUIRED), leaf("modificationTime", "int64", REQUIRED),
-                       leaf("dataChange", "flag", REQUIRED), text_map("tags")],
+    must = schema(add=[text("path", REQUIRED), text_map("partitionValues"), leaf("size", "int64", REQUIRED),
+                       leaf("modificationTime", "int64", REQUIRED), leaf("dataChange", "flag", REQUIRED), text_map("tags")],
                   protocol=[leaf("minReaderVersion", "int32", REQUIRED), leaf("minWriterVersion", "int32", REQUIRED)])
     rows = [VERSIONS, add_row("a", tags=entries(k="v", n=None)), add_row("b", partitionValues=None)]
     wanted = [VERSIONS, added("a", tags={"k": "v", "n": None}), added("b")]
-    case("required fields in optional groups", file_of(must, rows), wanted)
+    read("required fields in optional groups", must, rows, wanted)
     only = [Node("add", REQUIRED, nodes=must[0].nodes)]
-    case("a required group of files alone", file_of(only, rows[1:]), wanted[1:])
+    read("a required group of files alone", only, rows[1:], wanted[1:])
     wide = schema(protocol=[leaf("minReaderVersion", "int64"), leaf("minWriterVersion", "int64")], txn=[text("appId"), leaf("version", "int32")],
                   add=[text("path"), leaf("size", "int32"), leaf("modificationTime", "int32")])
     rows = [{"protocol": {"minReaderVersion": 2**31 - 1, "minWriterVersion": 0}}, {"txn": {"appId": "a", "version": -1}},
             {"add": {"path": "a", "size": 2**31 - 1, "modificationTime": 0}}]
-    case("numbers of 64 bits where ours have 32, and of 32 where ours have 64", file_of(wide, rows),
-         [rows[0], rows[1], added("a", 2**31 - 1, 0)])
-    case("absent columns of optional fields", file_of(schema(metaData=[text("id"), text("schemaString")], remove=[text("path")]),
-                                                      [{"metaData": {"id": "t", "schemaString": "{}"}}, {"remove": {"path": "a"}}]),
-         [TABLE_ACTION, removed("a")])
-    case("null fields", file_of(schema(metaData=METADATA, remove=REMOVE, add=ADD), [{"metaData": {"id": "t", "schemaString": "{}"}}, {"remove": {"path": "a"}},
-                                      {"add": {"path": "a", "size": 0, "modificationTime": 0}}]),
+    read("numbers of 64 bits where ours have 32, and of 32 where ours have 64", wide, rows, [rows[0], rows[1], added("a", 2**31 - 1, 0)])
+    read("absent columns of optional fields", schema(metaData=[text("id"), text("schemaString")], remove=[text("path")]),
+         [{"metaData": {"id": "t", "schemaString": "{}"}}, {"remove": {"path": "a"}}], [TABLE_ACTION, removed("a")])
+    read("null fields", schema(metaData=METADATA, remove=REMOVE, add=ADD),
+         [{"metaData": {"id": "t", "schemaString": "{}"}}, {"remove": {"path": "a"}}, {"add": {"path": "a", "size": 0, "modificationTime": 0}}],
          [TABLE_ACTION, removed("a"), added("a", 0, 0)])
-    case("kinds of actions that aren't known, and rows of none", file_of(schema(protocol=PROTOCOL, commitInfo=[text("engineInfo")], cdc=[text("path")]),
-                                                                         [{}, VERSIONS, {"commitInfo": {"engineInfo": "x"}}, {"cdc": {"path": "p"}}, {}]), [VERSIONS])
-    case("no known kind of action", file_of(schema(commitInfo=[text("engineInfo")]), [{"commitInfo": {"engineInfo": "x"}}] * 3), [])
-    case("a remove of which no column is read", file_of(schema(remove=[leaf("size", "int64")]), [{"remove": {"size": 1}}]), [])
-    case("no rows", file_of(SMALL, []), [])
+    read("kinds of actions that aren't known, and rows of none",
+         schema(protocol=PROTOCOL, commitInfo=[text("engineInfo")], cdc=[text("path")]),
+         [{}, VERSIONS, {"commitInfo": {"engineInfo": "x"}}, {"cdc": {"path": "p"}}, {}], [VERSIONS])
+    read("no known kind of action", schema(commitInfo=[text("engineInfo")]), [{"commitInfo": {"engineInfo": "x"}}] * 3, [])
+    read("a remove of which no column is read", schema(remove=[leaf("size", "int64")]), [{"remove": {"size": 1}}], [])
+    read("no rows", SMALL, [], [])
     case("no rows and no row groups", parquet.file_of([element("m", children=1), element("add", 1, children=1), element("path", 1, "chars")], []), [])
     bags = schema(protocol=PROTOCOL[:2] + [texts("readerFeatures", ("bag", "array_element")), texts("writerFeatures", ("bag", "array_element"))],
                   add=[text("path"), text_map("partitionValues", ("map", "k", "v")), leaf("size", "int64"), leaf("modificationTime", "int64")])
     rows = [{"protocol": {"minReaderVersion": 1, "minWriterVersion": 7, "writerFeatures": [{"array_element": "appendOnly"}]}},
             {"add": {"path": "a", "partitionValues": [{"k": "day", "v": "1"}], "size": 1, "modificationTime": 5}}]
-    case("lists and maps with other inner names", file_of(bags, rows),
+    read("lists and maps with other inner names", bags, rows,
          [{"protocol": {"minReaderVersion": 1, "minWriterVersion": 7, "writerFeatures": ["appendOnly"]}}, added("a", values={"day": "1"})])
     two = schema(protocol=PROTOCOL[:2] + [Node("writerFeatures", OPTIONAL, nodes=[text("array", REPEATED)], converted=LIST)])
-    case("a list whose elements are repeated themselves", file_of(two, [VERSIONS]), DAMAGED)
+    read("a list whose elements are repeated themselves", two, [VERSIONS], DAMAGED)
     twice = add_row("a", partitionValues=[{"key": "day", "value": "1"}, {"key": "day", "value": "2"}])
-    case("a key that a map has twice", file_of(schema(add=ADD), [twice]), [added("a", values={"day": "2"})])
+    read("a key that a map has twice", schema(add=ADD), [twice], [added("a", values={"day": "2"})])
     late = schema(add=ADD + [leaf("baseRowId", "int64"), leaf("defaultRowCommitVersion", "int64"), text("clusteringProvider")])
-    case("row ids and the provider of a clustering", file_of(late, [add_row("a", baseRowId=4, defaultRowCommitVersion=2, clusteringProvider="liquid")]),
+    read("row ids and the provider of a clustering", late,
+         [add_row("a", baseRowId=4, defaultRowCommitVersion=2, clusteringProvider="liquid")],
          [added("a", baseRowId=4, defaultRowCommitVersion=2, clusteringProvider="liquid")])
-    case("texts of several scripts", file_of(schema(add=ADD), [add_row("Zürich/日本/\U0001f600%20")]), [added("Zürich/日本/\U0001f600%20")])
+    read("texts of several scripts", schema(add=ADD), [add_row("Zürich/日本/\U0001f600%20")], [added("Zürich/日本/\U0001f600%20")])
     meta = schema(checkpointMetadata=[leaf("version", "int64"), text_map("tags")], protocol=PROTOCOL)
-    case("a checkpoint's own version", file_of(meta, [{"checkpointMetadata": {"version": 7, "tags": entries(k="v")}}, VERSIONS]),
+    read("a checkpoint's own version", meta, [{"checkpointMetadata": {"version": 7, "tags": entries(k="v")}}, VERSIONS],
          [{"checkpointMetadata": {"version": 7}}, VERSIONS])
 
 
 def bad_rows():
     two = {"txn": {"appId": "a", "version": 1}, "remove": {"path": "p"}}
-    case("a row that holds two actions", file_of(schema(txn=TXN, remove=REMOVE), [{"remove": {"path": "a"}}, two]), DAMAGED)
+    read("a row that holds two actions", schema(txn=TXN, remove=REMOVE), [{"remove": {"path": "a"}}, two], DAMAGED)
     for name, nodes, row in (
             ("a file without its size", ADD, {"add": {"path": "a", "modificationTime": 1}}),
             ("a file without its time", ADD, {"add": {"path": "a", "size": 1}}),
@@ -374,65 +386,70 @@ def bad_rows():
             ("a protocol without the version of writers", PROTOCOL, {"protocol": {"minReaderVersion": 1}}),
             ("an application without its version", TXN, {"txn": {"appId": "a"}}),
             ("a domain that doesn't say whether it goes", DOMAIN, {"domainMetadata": {"domain": "d", "configuration": "{}"}})):
-        case("a needed field is null: " + name, file_of(schema(**{list(row)[0]: nodes}), [row]), DAMAGED)
-    case("a needed field is absent", file_of(schema(add=[text("path"), leaf("size", "int64")]), [{"add": {"path": "a", "size": 1}}]), DAMAGED)
+        read("a needed field is null: " + name, schema(**{list(row)[0]: nodes}), [row], DAMAGED)
+    read("a needed field is absent", schema(add=[text("path"), leaf("size", "int64")]), [{"add": {"path": "a", "size": 1}}], DAMAGED)
     loose = schema(add=[text("path"), text_map("partitionValues", key=OPTIONAL), leaf("size", "int64"), leaf("modificationTime", "int64")])
     for name, pairs, wanted in (("is never null", [{"key": "day", "value": "1"}], [added("a", values={"day": "1"})]),
                                 ("is null", [{"key": "day", "value": "1"}, {"key": None, "value": "2"}], DAMAGED)):
         row = {"add": {"path": "a", "partitionValues": pairs, "size": 1, "modificationTime": 5}}
-        case("a map's key that may be null and " + name, file_of(loose, [row]), wanted)
+        read("a map's key that may be null and " + name, loose, [row], wanted)
     listed = {"protocol": {"minReaderVersion": 1, "minWriterVersion": 7, "writerFeatures": [{"element": "appendOnly"}, {"element": None}]}}
-    case("a null in a list of texts", file_of(schema(protocol=PROTOCOL), [listed]), DAMAGED)
+    read("a null in a list of texts", schema(protocol=PROTOCOL), [listed], DAMAGED)
 
 
 def numbers_out_of_range():
     wide = schema(protocol=[leaf("minReaderVersion", "int64"), leaf("minWriterVersion", "int64")])
     for number in (2**31, 2**63 - 1, -1, -2**63):
-        case("a protocol with the version %d of readers" % number, file_of(wide, [{"protocol": {"minReaderVersion": number, "minWriterVersion": 2}}]), DAMAGED)
-    case("a protocol with the version -1 of writers", file_of(schema(protocol=PROTOCOL), [{"protocol": {"minReaderVersion": 1, "minWriterVersion": -1}}]), DAMAGED)
-    case("a checkpoint's own version below 0", file_of(schema(checkpointMetadata=[leaf("version", "int64")]), [{"checkpointMetadata": {"version": -1}}]), DAMAGED)
-    case("a size below 0", file_of(schema(add=ADD), [add_row("a", size=-5)]), [added("a", -5)])
+        read("a protocol with the version %d of readers" % number, wide,
+             [{"protocol": {"minReaderVersion": number, "minWriterVersion": 2}}], DAMAGED)
+    read("a protocol with the version -1 of writers", schema(protocol=PROTOCOL),
+         [{"protocol": {"minReaderVersion": 1, "minWriterVersion": -1}}], DAMAGED)
+    read("a checkpoint's own version below 0", schema(checkpointMetadata=[leaf("version", "int64")]),
+         [{"checkpointMetadata": {"version": -1}}], DAMAGED)
+    read("a size below 0", schema(add=ADD), [add_row("a", size=-5)], [added("a", -5)])
 
 
 def bad_texts():
-    for name, raw in (("a lone byte", b"\xff"), ("half of a surrogate pair", b"\xed\xa0\x80"), ("a sign that is cut", b"a\xe6\x97"), ("a 0 in two bytes", b"\xc0\x80")):
-        case("a text that isn't UTF-8: " + name, file_of(schema(add=ADD), [add_row(raw)]), DAMAGED)
-    case("a value of a map that isn't UTF-8", file_of(schema(add=ADD), [add_row("a", partitionValues=[{"key": "day", "value": b"\x80"}])]), DAMAGED)
+    for name, raw in (("a lone byte", b"\xff"), ("half of a surrogate pair", b"\xed\xa0\x80"), ("a sign that is cut", b"a\xe6\x97"),
+                      ("a 0 in two bytes", b"\xc0\x80")):
+        read("a text that isn't UTF-8: " + name, schema(add=ADD), [add_row(raw)], DAMAGED)
+    read("a value of a map that isn't UTF-8", schema(add=ADD), [add_row("a", partitionValues=[{"key": "day", "value": b"\x80"}])], DAMAGED)
     stats = schema(add=ADD + [leaf("other", "chars")])
-    case("bytes that aren't UTF-8 in a column that isn't looked at", file_of(stats, [add_row("a", other=b"\xff")]), [added("a")])
+    read("bytes that aren't UTF-8 in a column that isn't looked at", stats, [add_row("a", other=b"\xff")], [added("a")])
 
 
 def other_shapes():
-    case("a path as a number", file_of(schema(add=[leaf("path", "int32")] + ADD[1:]), [{"add": {"path": 1, "size": 1, "modificationTime": 1}}]), DAMAGED)
-    case("a size as a floating point number", file_of(schema(add=ADD[:2] + [leaf("size", "double")] + ADD[3:]), [add_row("a", size=1.0)]), DAMAGED)
-    case("files as texts", file_of([text("add")], [{"add": "{}"}]), DAMAGED)
-    case("a list in the place of files, which has none of their columns", file_of([texts("add")], [{"add": []}]), [])
-    case("a repeated group of files", file_of([Node("add", REPEATED, nodes=ADD)], [{"add": [add_row("a")["add"]]}]), DAMAGED)
-    case("two groups of files", file_of(schema(protocol=PROTOCOL) + schema(add=ADD) + schema(add=ADD), [VERSIONS]), DAMAGED)
-    case("a map as a list", file_of(schema(add=[text("path"), texts("partitionValues")] + ADD[2:]), [add_row("a")]), DAMAGED)
+    read("a path as a number", schema(add=[leaf("path", "int32")] + ADD[1:]), [{"add": {"path": 1, "size": 1, "modificationTime": 1}}],
+         DAMAGED)
+    read("a size as a floating point number", schema(add=ADD[:2] + [leaf("size", "double")] + ADD[3:]), [add_row("a", size=1.0)], DAMAGED)
+    read("files as texts", [text("add")], [{"add": "{}"}], DAMAGED)
+    read("a list in the place of files, which has none of their columns", [texts("add")], [{"add": []}], [])
+    read("a repeated group of files", [Node("add", REPEATED, nodes=ADD)], [{"add": [add_row("a")["add"]]}], DAMAGED)
+    read("two groups of files", schema(protocol=PROTOCOL) + schema(add=ADD) + schema(add=ADD), [VERSIONS], DAMAGED)
+    read("a map as a list", schema(add=[text("path"), texts("partitionValues")] + ADD[2:]), [add_row("a")], DAMAGED)
 
 
 def sidecars():
     nodes = schema(protocol=PROTOCOL, sidecar=[text("path"), leaf("sizeInBytes", "int64"), leaf("modificationTime", "int64"), text_map("tags")])
     rows = [VERSIONS, {"sidecar": {"path": "s.parquet", "sizeInBytes": 1, "modificationTime": 2}}]
-    case("a sidecar is named", file_of(nodes, rows), DAMAGED)
-    case("no sidecar is named", file_of(nodes, [VERSIONS]), [VERSIONS])
+    read("a sidecar is named", nodes, rows, DAMAGED)
+    read("no sidecar is named", nodes, [VERSIONS], [VERSIONS])
 
 
 def unread_codecs():
     names = ["SNAPPY", "GZIP", "LZO", "BROTLI", "LZ4", "ZSTD", "LZ4_RAW"]
     for code, name in list(enumerate(names, 1)) + [(8, "CODEC_8"), (-1, "CODEC_-1")]:
         everywhere = {path: code for node in SMALL for path, _, _, _ in node.leaves()}
-        case("the codec %d" % code, file_of(SMALL, ROWS, Style(codecs=everywhere)), name + " is not supported")
+        read("the codec %d" % code, SMALL, ROWS, name + " is not supported", Style(codecs=everywhere))
     late = Style(codecs={("remove", "dataChange"): 1})
-    case("a codec of one column, of which all values are null", file_of(SMALL, [VERSIONS], late), "SNAPPY is not supported")
+    read("a codec of one column, of which all values are null", SMALL, [VERSIONS], "SNAPPY is not supported", late)
     for code in (5, 6, 7, 9):
         style = Style(encodings={("remove", "path"): code})
-        case("the encoding %d" % code, file_of(SMALL, ROWS, style), "ENCODING_%d is not supported" % code)
+        read("the encoding %d" % code, SMALL, ROWS, "ENCODING_%d is not supported" % code, style)
     both = Style(codecs={("protocol", "minReaderVersion"): 6}, encodings={("remove", "path"): 6})
-    case("a codec behind an encoding", file_of(SMALL, ROWS, both), "ZSTD is not supported")
+    read("a codec behind an encoding", SMALL, ROWS, "ZSTD is not supported", both)
     style = Style(encodings={("remove", "path"): 6})
-    case("an encoding in a file with a row that means nothing", file_of(SMALL, [{"protocol": {}}] + ROWS, style), "ENCODING_6 is not supported")
+    read("an encoding in a file with a row that means nothing", SMALL, [{"protocol": {}}] + ROWS, "ENCODING_6 is not supported", style)
 
 
 def damaged_files():
