@@ -248,9 +248,10 @@ module _ (events : List Told) where
         commit = among_stands (Commit_at w) (omega arith);
         staged = λ id allowed. among_stands (Staged w id) allowed;
         name = refl;
-      }) in
-      (plain.0 ∙ ap (λ (steps : List Step). record { base = None; steps = steps }) (steps_alike one two 0 (version + 1) same),
-      plain.1 ∙ ap (option_map commit_path) (gap_alike one two 0 (version + 1) same))
+      }) in (
+        plain.0 ∙ ap (λ (steps : List Step). record { base = None; steps = steps }) (steps_alike one two 0 (version + 1) same),
+        plain.1 ∙ ap (option_map commit_path) (gap_alike one two 0 (version + 1) same),
+      )
 
 -- ---- the laws
 
