@@ -45,8 +45,8 @@ refused_puts old new refusal puts taken = record {
   grows = puts.grows;
   clashes_later = puts.clashes_later;
   later = puts.later;
-  store = λ is. puts.store (ap (λ (r : Refusal). Err {A = Committed} r) (same_refusal refusal refusals.Store is));
-  taken = λ path is. taken_twice (Err refusal) old.clashes new.clashes taken path (ap (λ (r : Refusal). Err {A = Committed} r) (same_refusal refusal (refusals.Taken path) is));
+  store = λ is. puts.store (ap (λ (r : Refusal). Err r) (same_refusal refusal refusals.Store is));
+  taken = λ path is. taken_twice (Err refusal) old.clashes new.clashes taken path (ap (λ (r : Refusal). Err r) (same_refusal refusal (refusals.Taken path) is));
 }
 
 pub committed_ends : (told : Option (List Told)) (meant : List Told → Result Writing Refusal) (version : ℕ) (old new : Option (List ℕ)) (status : Status) (later : Option (List Told)) → GivesLine version old status new
