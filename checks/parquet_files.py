@@ -8,6 +8,7 @@ protocol") and shares no code with the crates. Run it without words to write the
 
 import json
 import os
+import struct
 import sys
 
 HERE = os.path.dirname(os.path.abspath(__file__))
@@ -107,7 +108,11 @@ def plain(value, kind):
         return little(value, 4)
     if kind == "int64":
         return little(value, 8)
-    return sized(value.encode())
+    if kind == "double":
+        return struct.pack("<d", value)
+    if kind in ("int96", "fixed"):
+        return value
+    return sized(value.encode() if isinstance(value, str) else value)
 
 
 def plains(values, kind):
@@ -118,8 +123,11 @@ def plains(values, kind):
 
 
 def levels(values, greatest):
-    """Levels in one run of each stretch: packed, but where all are equal."""
-    width = greatest.bit_length()
+    """Levels in one run: packed, but where all are equal."""
+    return run(values, greatest.bit_length())
+
+
+def run(values, width):
     if values and all(value == values[0] for value in values):
         return repeated(len(values), values[0], width)
     return packed(values, width) if values else b""
@@ -146,21 +154,24 @@ def dictionary_page(values, kind, encoding=0):
     return Struct(header).bytes + body
 
 
-PHYSICAL = {"flag": 0, "int32": 1, "int64": 2, "chars": 6}
+PHYSICAL = {"flag": 0, "int32": 1, "int64": 2, "int96": 3, "double": 5, "chars": 6, "fixed": 7}
 
 
-def element(name, repetition=None, kind=None, children=None):
-    return Struct({1: None if kind is None else Whole(PHYSICAL[kind]),
-                   3: None if repetition is None else Whole(repetition),
-                   4: Text(name), 5: None if children is None else Whole(children)})
+def optional(number):
+    return None if number is None else Whole(number)
+
+
+def element(name, repetition=None, kind=None, children=None, length=None, converted=None):
+    return Struct({1: optional(PHYSICAL.get(kind)), 2: optional(length), 3: optional(repetition), 4: Text(name), 5: optional(children),
+                   6: optional(converted)})
 
 
 class Chunk:
     """Pages of a column; the first of them is a dictionary page where `coded` is true."""
 
-    def __init__(self, path, kind, values, pages, coded=False, first=None, dictionary=None):
+    def __init__(self, path, kind, values, pages, coded=False, first=None, dictionary=None, codec=0):
         self.path, self.kind, self.values, self.pages = path, kind, values, pages
-        self.coded, self.first, self.dictionary = coded, first, dictionary
+        self.coded, self.first, self.dictionary, self.codec = coded, first, dictionary, codec
 
 
 def file_of(elements, groups, rows=None, group_rows=None, first_group=None):
@@ -181,7 +192,7 @@ def file_of(elements, groups, rows=None, group_rows=None, first_group=None):
                     first = start + len(chunk.pages[0])
                     dictionary = start
             meta = {1: Whole(PHYSICAL[chunk.kind]), 2: List(5, [Whole(0), Whole(3)]),
-                    3: List(8, [Text(name) for name in chunk.path]), 4: Whole(0), 5: long(chunk.values),
+                    3: List(8, [Text(name) for name in chunk.path]), 4: Whole(chunk.codec), 5: long(chunk.values),
                     6: long(size), 7: long(size), 9: long(first),
                     11: None if dictionary is None else long(dictionary)}
             columns.append(Struct({2: long(0), 3: Struct(meta)}))
@@ -368,6 +379,17 @@ def own_file(leaf, rows, pages, code):
     return b"PAR1" + b"".join(pages) + footer + little(len(footer), 4) + b"PAR1"
 
 
+def finish(place, rows):
+    """Writes the rows, or compares them with what is written."""
+    text = "".join(json.dumps(row, separators=(",", ":")) + "\n" for row in rows)
+    if sys.argv[1:] == ["--check"]:
+        with open(place, encoding="utf-8") as file:
+            return 0 if file.read() == text else 1
+    with open(place, "w", encoding="utf-8") as file:
+        file.write(text)
+    return 0
+
+
 def main():
     flags()
     dictionaries()
@@ -376,13 +398,7 @@ def main():
     second_version()
     lying_counts()
     own_files()
-    text = "".join(json.dumps(row, separators=(",", ":")) + "\n" for row in CASES)
-    if sys.argv[1:] == ["--check"]:
-        with open(PLACE, encoding="utf-8") as file:
-            return 0 if file.read() == text else 1
-    with open(PLACE, "w", encoding="utf-8") as file:
-        file.write(text)
-    return 0
+    return finish(PLACE, CASES)
 
 
 if __name__ == "__main__":

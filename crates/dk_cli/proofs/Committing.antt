@@ -1,9 +1,11 @@
 -- What the command `commit` owes where its commit was refused, and by the moment that it is handed.
-use Rattle.std.proofs.Common.{◌≡◌, ℕ, ℤ, List, subst, inl}
+use Rattle.std.proofs.Common.{◌≡◌, ℕ, ℤ, List, ap, sym, subst, inl, inr}
 use Rattle.std.specs.Prelude.{Option, Some, None, Result, Err, IfSome}
 use Rattle.dk_store.specs.Told.{Told}
+use Rattle.dk_store.specs.Seen.{Seen}
 use Rattle.dk_model.specs.declared.action.Action.{Action}
 use Rattle.dk_engine.specs.declared.limits.Limits.{Limits}
+use Rattle.dk_engine.specs.Effects.{MayPut}
 use Rattle.dk_engine.specs.declared.refusal.Refusal.{Refusal}
 use Rattle.dk_engine.specs.declared.refusal.Refusal.TheVariants as refusals
 use Rattle.dk_paths.specs.Numbers.{id_text}
@@ -11,11 +13,14 @@ use Rattle.dk_lawful.specs.History.{commits_of, history}
 use Rattle.dk_lawful.specs.Kept.{IfBoth}
 use Rattle.dk_lawful.specs.Transacted.{transacted}
 use Rattle.dk_txn.specs.Attempt.{Writing, attempt}
-use Rattle.dk_txn.specs.Commits.{Commits, CommitRefuses, HistoryAfterRefusal, SaysTransacted}
+use Rattle.dk_txn.specs.declared.commit.Committed.{Committed}
+use Rattle.dk_txn.specs.Commits.{Commits, CommitRefuses, HistoryAfterRefusal, SaysTransacted, TakenClashes, WritesMeant}
+use Rattle.dk_txn.proofs.Clashes.{taken_twice}
 use Rattle.dk_cli.specs.declared.status.Status.{Status}
 use Rattle.dk_cli.specs.declared.status.Status.TheVariants as statuses
 use Rattle.dk_cli.specs.Actions.{actions_of}
-use Rattle.dk_cli.specs.Commit.{EndsRefused, CommitEnds, CommitAnswers, EndsHistory, InputSays, SaysCommitted}
+use Rattle.dk_cli.specs.Effects.{PutsInStore}
+use Rattle.dk_cli.specs.Commit.{EndsRefused, CommitEnds, CommitAnswers, EndsHistory, GivesLine, InputSays, SaysCommitted}
 
 ends_refused : (refusal : Refusal) (meant : Result Writing Refusal) (events : List Told) (later : Option (List Told)) → CommitRefuses refusal meant events later → EndsRefused refusal meant events later
 ends_refused refusals.OutOfMemory meant events later did = inl did
@@ -30,6 +35,29 @@ pub refused_ends : (told : Option (List Told)) (limits : Limits) (own : List Act
     → IfSome told (λ events. Commits (attempt events limits own now base) events (Err refusal) later)
     → IfSome told (λ events. CommitEnds (attempt events limits own now base) events old (statuses.Refused refusal) new later)
 refused_ends told limits own now base old new refusal later same did = ends_with told (λ events. attempt events limits own now base) old new refusal later same did
+
+-- what was refused, or committed, is said of the store and of the sink
+same_refusal : (one other : Refusal) → ◌≡◌ {A = Status} (statuses.Refused one) (statuses.Refused other) → one ≡ other
+same_refusal one other is = cc
+
+pub refused_puts : (old new : Seen) (refusal : Refusal) → MayPut {T = Committed} old new (Err refusal) → TakenClashes None old.clashes new.clashes refusal → PutsInStore old new (statuses.Refused refusal)
+refused_puts old new refusal puts taken = record {
+  grows = puts.grows;
+  clashes_later = puts.clashes_later;
+  later = puts.later;
+  store = λ is. puts.store (ap (λ (r : Refusal). Err r) (same_refusal refusal refusals.Store is));
+  taken = λ path is. taken_twice (Err refusal) old.clashes new.clashes taken path (ap (λ (r : Refusal). Err r) (same_refusal refusal (refusals.Taken path) is));
+}
+
+pub committed_ends : (told : Option (List Told)) (meant : List Told → Result Writing Refusal) (version : ℕ) (old new : Option (List ℕ)) (status : Status) (later : Option (List Told)) → GivesLine version old status new
+    → IfSome told (λ events. WritesMeant (meant events) events version later) → IfSome told (λ events. CommitEnds (meant events) events old status new later)
+committed_ends None meant version old new status later gives did = tt
+committed_ends (Some events) meant version old new statuses.Done later gives did = (version, did, gives)
+committed_ends (Some events) meant version old new statuses.SinkFault later gives did = (version, gives.0, did, gives.1)
+committed_ends (Some events) meant version old new (statuses.Refused refusal) later gives did =
+    (subst (λ (r : Refusal). EndsRefused r (meant events) events later) (sym gives.0) (inr (version, did)), gives.1)
+committed_ends (Some events) meant version old new statuses.SourceFault later gives did = absurd gives
+committed_ends (Some events) meant version old new statuses.Usage later gives did = absurd gives
 
 refused_history : (refusal : Refusal) (commit : List Action) (events later : List Told) (old new : Option (List ℕ)) → HistoryAfterRefusal refusal commit events later
     → EndsHistory commit (statuses.Refused refusal) events later old new

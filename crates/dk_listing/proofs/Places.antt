@@ -21,7 +21,7 @@ use Rattle.dk_listing.proofs.Standing.{is_slash, lists_name, no_slash_in_digits,
 clear : (front rest : List ℕ) → list_any is_slash front ≡ false → list_any is_slash rest ≡ false → list_any is_slash (front ++ rest) ≡ false
 clear front rest first second = list_any-append is_slash front rest ∙ ap₂ (λ (a b : Bool). a || b) first second
 
-no_slash_in_name : (name : LogName) → list_any is_slash (spelling name) ≡ false
+pub no_slash_in_name : (name : LogName) → list_any is_slash (spelling name) ≡ false
 no_slash_in_name (names.Commit v) = no_slash_in_commit v
 no_slash_in_name (names.Classic v) = clear (digits 20 v) (codes ".checkpoint." ++ codes "parquet") (no_slash_in_digits 20 v) refl
 no_slash_in_name (names.Part v part parts) =

@@ -1,6 +1,6 @@
 //! The parts of a page's body.
 
-ghost use Rattle.std.specs.Prelude.{◌≡◌, ◌+◌, ◌*◌, length, option_map};
+ghost use Rattle.std.specs.Prelude.{◌≡◌, length, option_map};
 ghost use Rattle.dk_grammar.specs.Digits.{number_of};
 ghost use Rattle.dk_pages.specs.Pages.{page_of};
 ghost use Rattle.dk_pages.specs.Split.{cut, levels, parts_of, sized, split_of, split_v1, split_v2};

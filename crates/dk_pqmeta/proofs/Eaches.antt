@@ -1,5 +1,5 @@
 -- Values of a list, one after another: those done and those left are all.
-use Rattle.std.proofs.Common.{◌≡◌, ℕ, zero, suc, ◌+◌, ◌-◌, ◌<◌, ◌==◌, List, [], ◌∷◌, ◌++◌, Ok, Err, IsErr, refl, sym, ap, subst, ◌∙◌, append_assoc, arith}
+use Rattle.std.proofs.Common.{◌≡◌, ℕ, suc, ◌+◌, ◌-◌, ◌<◌, List, [], ◌∷◌, ◌++◌, Ok, Err, IsErr, refl, sym, ap, subst, ◌∙◌, append_assoc, arith}
 use Rattle.dk_grammar.specs.Thrift.{Front, ◌>>=◌}
 use Rattle.dk_grammar.specs.Lists.{each_at}
 use Rattle.dk_thrift.specs.Walks.{after}

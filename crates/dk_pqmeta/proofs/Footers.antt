@@ -1,9 +1,9 @@
 -- The footer is read exactly where one is spelled.
-use Rattle.std.proofs.Common.{◌≡◌, ℕ, ◌==◌, ◌<◌, Bool, true, false, cond, ℤ, pos, Some, None, option_and_then, List, [], ◌∷◌, ◌++◌, length, Ok, Err, refl, sym, ap, subst, ◌∙◌, inl, inr, arith}
+use Rattle.std.proofs.Common.{◌≡◌, ℕ, ◌==◌, Bool, true, false, cond, pos, Some, None, option_and_then, List, [], ◌∷◌, ◌++◌, length, Ok, Err, refl, sym, ap, subst, ◌∙◌, inl, inr, arith}
 use Rattle.std.proofs.lemmas.Bool.{eqb-true}
 use Rattle.std.proofs.lemmas.List.{append-nil}
 use Rattle.std.specs.Str.{is_utf8}
-use Rattle.dk_grammar.specs.Thrift.{Front, ◌>>=◌, binary_at, bad_at}
+use Rattle.dk_grammar.specs.Thrift.{Front, binary_at, bad_at}
 use Rattle.dk_grammar.specs.Grammar.{ReadsBy, Spelled}
 use Rattle.dk_grammar.specs.Structs.{SpellsNumberField, number_meaning}
 use Rattle.dk_grammar.specs.Lists.{SpellsListOf, SpellsHeldOr, list_of, held_or}

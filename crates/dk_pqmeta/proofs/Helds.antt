@@ -3,7 +3,7 @@ use Rattle.std.proofs.Common.{◌≡◌, ℕ, ◌==◌, true, false, ℤ, Option
 use Rattle.std.proofs.lemmas.Bool.{and_parts}
 use Rattle.std.proofs.lemmas.List.{append-nil}
 use Rattle.std.specs.Ordering.{int_eq}
-use Rattle.dk_grammar.specs.Thrift.{Front, ◌>>=◌}
+use Rattle.dk_grammar.specs.Thrift.{Front}
 use Rattle.dk_grammar.proofs.LastUnder.{last_more}
 use Rattle.dk_grammar.specs.Structs.{FieldValues, Meaning, last_under}
 use Rattle.dk_grammar.specs.Lists.{Either, held, other, is_held, held_or, own_held, own_other, held_in, others_in}

@@ -1,5 +1,5 @@
 -- The footer of a file, by cases on the bytes, and what is answered.
-use Rattle.std.specs.Prelude.{◌≡◌, ◌-◌, ℕ, ◌==◌, ◌&&◌, if◌then◌else◌, Option, Some, None, Result, Ok, Err, List, [], ◌∷◌, length}
+use Rattle.std.specs.Prelude.{ℕ, ◌==◌, if◌then◌else◌, Option, Some, None, Result, Ok, Err, List, length}
 use Rattle.dk_grammar.specs.Thrift.{Front}
 use Rattle.dk_pqmodel.specs.declared.fault.PqFault.{PqFault}
 use Rattle.dk_pqmodel.specs.declared.fault.PqFault.TheVariants as pq

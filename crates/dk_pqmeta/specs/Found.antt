@@ -1,5 +1,5 @@
 -- What functions over a reader find of a footer.
-use Rattle.std.specs.Prelude.{◌≡◌, ◌++◌, ℕ, Result, Ok, Err, IsErr}
+use Rattle.std.specs.Prelude.{◌≡◌, Result, Ok, Err, IsErr}
 use Rattle.dk_grammar.specs.Thrift.{Front, ◌>>=◌}
 use Rattle.dk_grammar.specs.Structs.{FieldValues}
 use Rattle.dk_thrift.specs.Reading.{Reading}

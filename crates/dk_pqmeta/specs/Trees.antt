@@ -1,5 +1,5 @@
 -- The tree of the schema, from the flat list of its elements.
-use Rattle.std.specs.Prelude.{ℕ, zero, suc, ◌==◌, nat_le, if◌then◌else◌, ℤ, pos, negsuc, Option, Some, None, List, [], ◌∷◌, ◌++◌, length}
+use Rattle.std.specs.Prelude.{ℕ, zero, suc, ◌==◌, nat_le, if◌then◌else◌, ℤ, pos, negsuc, Option, Some, None, List, [], ◌∷◌, length}
 use Rattle.dk_pqmodel.specs.FileSchema.{FileNode, file_node, FileNodes}
 use Rattle.dk_pqmodel.specs.Footer.{◌>=◌, Element, schema_element, group_of, FileFields, Footer, each_of, natural, are_new, most_file_levels}
 use Rattle.dk_pqmeta.specs.View.{nodes_of_list}

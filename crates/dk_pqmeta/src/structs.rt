@@ -1,6 +1,6 @@
 //! Structs of which some fields are kept, and lists of them.
 
-ghost use Rattle.std.specs.Prelude.{◌≡◌, ◌++◌, ℕ, [], List, length, map};
+ghost use Rattle.std.specs.Prelude.{◌≡◌, ◌++◌, [], length, map};
 ghost use Rattle.dk_grammar.specs.Structs.{FieldValues, Meaning, fields_from, struct_at, under};
 ghost use Rattle.dk_grammar.specs.Lists.{list_of, read_turned};
 ghost use Rattle.dk_pqmeta.specs.Found.{FindsFront, FindsFields, FindsOne, kept_front};

@@ -1,7 +1,7 @@
 //! Columns of triples: what the Parquet format keeps of rows (Dremel's repetition and definition levels).
 
 ghost use Rattle.std.specs.Prelude.{◌≡◌, IfOk, map};
-ghost use Rattle.dk_pqmodel.specs.ColumnView.{columns_of, columns_in, column_of, triple_of, value_of};
+ghost use Rattle.dk_pqmodel.specs.ColumnView.{columns_in, column_of, triple_of, value_of};
 
 use std::alloc::{AllocError, Global};
 

@@ -12,6 +12,7 @@ mod page;
 mod row;
 mod rules;
 mod schema;
+mod width;
 
 pub use columns::{Columns, Triple, Value};
 pub use fault::PqFault;
@@ -20,3 +21,4 @@ pub use page::{PageHeader, PageKind};
 pub use row::{Cell, Row};
 pub use rules::is_schema;
 pub use schema::Schema;
+pub use width::level_width;

@@ -1,7 +1,6 @@
 //! The rules that make nodes a schema, tested.
 
 ghost use Rattle.std.specs.Prelude.{◌≡◌, ◌≤◌, ◌↔◌, ◌<◌, length, drop, IsTrue};
-ghost use Rattle.std.specs.Bool.{OnTrue};
 ghost use Rattle.dk_pqmodel.specs.NodeView.{fields_of, shape_of};
 ghost use Rattle.dk_pqmodel.specs.Shape.{group};
 ghost use Rattle.dk_pqmodel.specs.Schema.{IsSchema, is_named, are_distinct, are_sound, is_sound_shape, levels_of, levels_at};

@@ -8,6 +8,7 @@ use Rattle.dk_pqmodel.specs.FilePages.{ColumnAt}
 use Rattle.dk_pqmodel.specs.FooterBytes.{magic}
 use Rattle.dk_pqmodel.specs.Shape.{Fields}
 use Rattle.dk_pqwrite.specs.declared.chunk.Chunk.{Chunk}
+use Rattle.dk_pqwrite.specs.declared.group.RowGroup.{RowGroup}
 use Rattle.dk_pqwrite.specs.Chunks.{encodings_of, path_of_chunk, chunk_said, meta_said}
 use Rattle.dk_pqwrite.specs.Footers.{EndsFile, file_said, footer_of}
 use Rattle.dk_pqwrite.specs.OverItself.{own_plans, column_path}
@@ -43,12 +44,12 @@ says_all [] (k ∷ ks) ps paths sized = (let never : path_of_chunk k ∷ map pat
 says_all (c ∷ cs) [] ps paths sized = (let never : [] ≡ column_path c ∷ map column_path cs = paths in cc)
 says_all (c ∷ cs) (k ∷ ks) [] paths sized = absurd sized
 
-pub says_bytes : (fs : Fields) (cut : List Column) (count size : ℕ) (ks footed : List Chunk) (before bytes : List ℕ) → WritesColumns (columns_of (own_plans fs []) 0 0) cut ks magic before → footed ≡ ks
-    → size + 4 ≡ length before → EndsFile (footer_of fs count footed) (file_said fs count size footed) before bytes → SaysItsBytes fs count bytes
-says_bytes fs cut count size ks footed before bytes written same all ends =
+pub says_bytes : (fs : Fields) (cut : List Column) (group : RowGroup) (before bytes : List ℕ) → WritesColumns (columns_of (own_plans fs []) 0 0) cut group.chunks.items magic before
+    → group.size + 4 ≡ length before → EndsFile (footer_of fs group) (file_said fs group) before bytes → SaysItsBytes fs group.rows bytes
+says_bytes fs cut group before bytes written all ends =
+    let ks = group.chunks.items in
     let four : length magic ≡ 4 = refl in
-    let long : size ≡ length (flat_map (λ (p : List ℕ). p) written.parts) = omega (arith, all, four, ap length written.added, length-append magic written.part, ap length written.joined) in
-    let said = subst (λ cs. SpellsFileSaid ends.0 (file_said fs count size cs)) same ends.3 in
+    let long : group.size ≡ length (flat_map (λ (p : List ℕ). p) written.parts) = omega (arith, all, four, ap length written.added, length-append magic written.part, ap length written.joined) in
     record {
       before = before;
       part = ends.0;
@@ -57,10 +58,10 @@ says_bytes fs cut count size ks footed before bytes written same all ends =
       whole = written.added ∙ ap (λ p. magic ++ p) written.joined;
       metas = map meta_said ks;
       each = says_all (columns_of (own_plans fs []) 0 0) ks written.parts written.paths written.sized;
-      said = subst (λ n. SpellsFileSaid ends.0 (whole_said fs count n (map meta_said ks))) long
+      said = subst (λ n. SpellsFileSaid ends.0 (whole_said fs group.rows n (map meta_said ks))) long
           (subst (λ (cs : List ChunkSaid). SpellsFileSaid ends.0 (record {
-            schema = (file_said fs count size ks).schema;
-            rows = Some (pos count);
-            groups = Some (record { columns = Some cs; bytes = Some (pos size); rows = Some (pos count) } ∷ []);
-          })) (with_all ks) said);
+            schema = (file_said fs group).schema;
+            rows = Some (pos group.rows);
+            groups = Some (record { columns = Some cs; bytes = Some (pos group.size); rows = Some (pos group.rows) } ∷ []);
+          })) (with_all ks) ends.3);
     }

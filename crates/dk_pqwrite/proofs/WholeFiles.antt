@@ -7,7 +7,6 @@ use Rattle.dk_pqmodel.specs.Shape.{Fields}
 use Rattle.dk_pqmodel.specs.Schema.{IsSchema}
 use Rattle.dk_pqmodel.specs.Datum.{Cells, no_cells, one_cell, Column, appended}
 use Rattle.dk_pqmodel.specs.Fits.{AreRowsOf}
-use Rattle.dk_pqmodel.specs.Footer.{RowGroup}
 use Rattle.dk_pqmodel.specs.Footer as plain
 use Rattle.dk_pqmodel.specs.FooterBytes.{magic}
 use Rattle.dk_pqmodel.specs.FileMeans.{HasColumns, HasRows, FileMeans, columns_of, rows_in}
@@ -17,6 +16,7 @@ use Rattle.dk_pqmodel.specs.Triples.{triples}
 use Rattle.dk_pqmodel.specs.Weight.{most_bytes}
 use Rattle.dk_pqwrite.specs.Said.{FileSaid}
 use Rattle.dk_pqwrite.specs.declared.chunk.Chunk.{Chunk}
+use Rattle.dk_pqwrite.specs.declared.group.RowGroup.{RowGroup}
 use Rattle.dk_pqwrite.specs.Chunks.{chunk_with_path, path_of_chunk}
 use Rattle.dk_pqwrite.specs.Footers.{EndsFile, footer_of, footer_size}
 use Rattle.dk_pqwrite.specs.OverItself.{own_plans, column_path}
@@ -61,25 +61,30 @@ nothing_behind : (rows : Cells) → appended rows no_cells ≡ rows
 nothing_behind no_cells = refl
 nothing_behind (one_cell row rows) = ap (one_cell row) (nothing_behind rows)
 
-module _ (fs : Fields) (rows : Cells) (count : ℕ) (ks : List Chunk) (before bytes : List ℕ) (is : IsSchema fs) (form : AreRowsOf fs rows) (counted : rows_in rows ≡ count) (said : FileSaid) where
-  abbrev group : RowGroup
-  group = record { rows = count; columns = map chunk_with_path ks }
+module _ (fs : Fields) (rows : Cells) (group : RowGroup) (before bytes : List ℕ) (is : IsSchema fs) (form : AreRowsOf fs rows) (counted : rows_in rows ≡ group.rows) (said : FileSaid) where
+  abbrev chunks : List Chunk
+  chunks = group.chunks.items
 
-  share : AreHeld before (columns_of (own_plans fs []) 0 0) (triples fs rows) ks → map path_of_chunk ks ≡ map column_path (columns_of (own_plans fs []) 0 0) → HasRows before (projection fs (written_nodes fs)) group rows
+  abbrev own_group : plain.RowGroup
+  own_group = record { rows = group.rows; columns = map chunk_with_path chunks }
+
+  share : AreHeld before (columns_of (own_plans fs []) 0 0) (triples fs rows) chunks → map path_of_chunk chunks ≡ map column_path (columns_of (own_plans fs []) 0 0)
+      → HasRows before (projection fs (written_nodes fs)) own_group rows
   share held paths = record {
     columns = triples fs rows;
-    held = subst (λ plans. HasColumns before group (columns_of plans 0 0) (triples fs rows)) (sym (own_projection fs is))
-        (held_columns before count (map chunk_with_path ks) (columns_of (own_plans fs []) 0 0) (triples fs rows) ks held paths (All-contains_itself (map chunk_with_path ks)));
+    held = subst (λ plans. HasColumns before own_group (columns_of plans 0 0) (triples fs rows)) (sym (own_projection fs is))
+        (held_columns before group.rows (map chunk_with_path chunks) (columns_of (own_plans fs []) 0 0) (triples fs rows) chunks held paths (All-contains_itself (map chunk_with_path chunks)));
     triples = own_triples fs rows is form;
     count = counted;
   }
 
-  means_rows : AreHeld before (columns_of (own_plans fs []) 0 0) (triples fs rows) ks → map path_of_chunk ks ≡ map column_path (columns_of (own_plans fs []) 0 0) → EndsFile (footer_of fs count ks) said before bytes → FileMeans fs bytes rows
+  means_rows : AreHeld before (columns_of (own_plans fs []) 0 0) (triples fs rows) chunks → map path_of_chunk chunks ≡ map column_path (columns_of (own_plans fs []) 0 0) → EndsFile (footer_of fs group) said before bytes
+      → FileMeans fs bytes rows
   means_rows held paths ends = record {
     before = before;
     part = ends.0;
     framed = ends.1;
-    footer = footer_of fs count ks;
+    footer = footer_of fs group;
     spelled = ends.2;
     fitting = fits_own fs is;
     shares = rows ∷ [];
@@ -89,17 +94,16 @@ module _ (fs : Fields) (rows : Cells) (count : ℕ) (ks : List Chunk) (before by
   }
 
 -- the pages of all columns, and a footer of their chunks
-pub file_means : (fs : Fields) (rows : Cells) (count : ℕ) (said : FileSaid) (ks footed : List Chunk) (before bytes : List ℕ) → IsSchema fs → AreRowsOf fs rows → rows_in rows ≡ count
-    → WritesColumns (columns_of (own_plans fs []) 0 0) (triples fs rows) ks magic before → footed ≡ ks → EndsFile (footer_of fs count footed) said before bytes → FileMeans fs bytes rows
-file_means fs rows count said ks footed before bytes is form counted written same ends =
-    means_rows fs rows count ks before bytes is form counted said
-    (subst (λ all. AreHeld all (columns_of (own_plans fs []) 0 0) (triples fs rows) ks) (append-nil before) (written.held []))
-    written.paths (subst (λ chunks. EndsFile (footer_of fs count chunks) said before bytes) same ends)
+pub file_means : (fs : Fields) (rows : Cells) (group : RowGroup) (said : FileSaid) (before bytes : List ℕ) → IsSchema fs → AreRowsOf fs rows → rows_in rows ≡ group.rows
+    → WritesColumns (columns_of (own_plans fs []) 0 0) (triples fs rows) group.chunks.items magic before → EndsFile (footer_of fs group) said before bytes → FileMeans fs bytes rows
+file_means fs rows group said before bytes is form counted written ends =
+    means_rows fs rows group before bytes is form counted said
+    (subst (λ all. AreHeld all (columns_of (own_plans fs []) 0 0) (triples fs rows) group.chunks.items) (append-nil before) (written.held [])) written.paths ends
 
 -- ---- its size
 
-pub few_bytes : (fs : Fields) (rows : Cells) (ks footed : List Chunk) (before bytes : List ℕ) → IsSchema fs → WritesColumns (columns_of (own_plans fs []) 0 0) (triples fs rows) ks magic before → footed ≡ ks
-    → length bytes ≤ length before + 78 + footer_size fs footed → length bytes ≤ most_bytes fs rows
-few_bytes fs rows ks footed before bytes is written same h =
+pub few_bytes : (fs : Fields) (rows : Cells) (ks : List Chunk) (before bytes : List ℕ) → IsSchema fs → WritesColumns (columns_of (own_plans fs []) 0 0) (triples fs rows) ks magic before
+    → length bytes ≤ length before + 78 + footer_size fs ks → length bytes ≤ most_bytes fs rows
+few_bytes fs rows ks before bytes is written h =
     let four : length magic ≡ 4 = refl in
-    omega (arith, h, ap (footer_size fs) same, four, written.size, ap length written.added, length-append magic written.part, schema_size fs is, footer_size_is fs ks written.paths)
+    omega (arith, h, four, written.size, ap length written.added, length-append magic written.part, schema_size fs is, footer_size_is fs ks written.paths)

@@ -23,6 +23,7 @@ use Rattle.dk_pqwrite.specs.Said.{ElementSaid, SpellsElementSaid, GroupSaid, Spe
 use Rattle.dk_pqwrite.proofs.SaidRead.{element_read, chunk_read, group_read, file_read, file_found}
 use Rattle.dk_pqmodel.specs.declared.node.Node.{Node}
 use Rattle.dk_pqwrite.specs.declared.chunk.Chunk.{Chunk}
+use Rattle.dk_pqwrite.specs.declared.group.RowGroup.{RowGroup}
 use Rattle.dk_pqwrite.specs.Chunks.{IsFit, path_of_chunk, chunk_with_path, chunk_said, group_said}
 use Rattle.dk_pqwrite.specs.Elements.{fields_said, read_element, said_of, WritesElement, WritesNodes}
 use Rattle.dk_pqwrite.specs.FooterSizes.{name_size, element_size, chunk_size}
@@ -87,8 +88,11 @@ paths_are : (cs : List Chunk) → map chunk_path (map chunk_with_path cs) ≡ ma
 paths_are [] = refl
 paths_are (c ∷ cs) = ap (λ ps. path_of_chunk c ∷ ps) (paths_are cs)
 
-group_again : (fs : Fields) (rows size : ℕ) (cs : List Chunk) → IsSchema fs → All IsFit cs → AreColumnsOf fs cs → group_of (group_read (group_said cs size rows)) ≡ Some (record { rows = rows; columns = map chunk_with_path cs })
-group_again fs rows size cs is fit columns = rw (chunks_again cs (recursion_from_All IsFit cs fit), chunks_distinct fs (map chunk_with_path cs) is (paths_are cs ∙ columns)) refl
+group_again : (fs : Fields) (group : RowGroup) → IsSchema fs → All IsFit group.chunks.items → AreColumnsOf fs group.chunks.items
+    → group_of (group_read (group_said group)) ≡ Some (record { rows = group.rows; columns = map chunk_with_path group.chunks.items })
+group_again fs group is fit columns =
+    let chunks = group.chunks.items in
+    rw (chunks_again chunks (recursion_from_All IsFit chunks fit), chunks_distinct fs (map chunk_with_path chunks) is (paths_are chunks ∙ columns)) refl
 
 -- ---- the whole
 
@@ -200,15 +204,15 @@ elements_again : (es : List ElementSaid) → each_of schema_element (map element
 elements_again [] = refl
 elements_again (e ∷ es) = rw (elements_again es) refl
 
-pub footer_spelled : (fs : Fields) (rows size : ℕ) (cs : List Chunk) (bytes : List ℕ) → IsSchema fs → All IsFit cs → AreColumnsOf fs cs → SpellsFileFields fs rows size cs bytes → SpellsFooter bytes (footer_of fs rows cs)
-footer_spelled fs rows size cs bytes is fit columns file = (
-  file_read (file_said fs rows size cs),
-  file_found bytes (file_said fs rows size cs) file.spelled,
+pub footer_spelled : (fs : Fields) (group : RowGroup) (bytes : List ℕ) → IsSchema fs → All IsFit group.chunks.items → AreColumnsOf fs group.chunks.items → SpellsFileFields fs group bytes → SpellsFooter bytes (footer_of fs group)
+footer_spelled fs group bytes is fit columns file = (
+  file_read (file_said fs group),
+  file_found bytes (file_said fs group) file.spelled,
   record {
     elements = root_of fs ∷ flat_of (written_nodes fs);
     schema = elements_again (root_said fs ∷ said_of (written_nodes fs)) ∙ file.read;
     tree = own_tree fs (root_of fs) is refl;
-    groups = rw (group_again fs rows size cs is fit columns) refl;
+    groups = rw (group_again fs group is fit columns) refl;
     rows = refl;
   },
 )

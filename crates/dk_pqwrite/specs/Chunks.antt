@@ -1,9 +1,11 @@
 -- What is said of the chunks and of their row group.
-use Rattle.std.specs.Prelude.{◌<◌, ◌^◌, ℕ, pos, IfSome, Some, option_map, List, map, string_bytes, Bool, true, false, is_some, ◌∷◌, []}
+use Rattle.std.specs.Prelude.{◌<◌, ◌^◌, ℕ, pos, IfSome, Some, option_map, All, List, map, sum_by, string_bytes, Bool, true, false, is_some, ◌∷◌, []}
 use Rattle.dk_pqmodel.specs.Projection.{Path}
 use Rattle.dk_pqmodel.specs.Footer as plain
 use Rattle.dk_pqwrite.specs.Said.{MetaSaid, ChunkSaid, GroupSaid}
 use Rattle.dk_pqwrite.specs.declared.chunk.Chunk.{Chunk}
+use Rattle.dk_pqwrite.specs.declared.group.RowGroup.{RowGroup}
+use Rattle.dk_pqwrite.specs.FooterSizes.{chunk_size}
 
 abbrev pub path_of_chunk : Chunk → Path
 path_of_chunk c = map string_bytes c.path.items
@@ -20,6 +22,12 @@ pub record IsFit (c : Chunk) : Type 0 where
   pub size : c.size < 2 ^ 63
   pub first : c.first_page < 2 ^ 63
   pub dictionary : IfSome c.dictionary_page (λ n. (0 < n) × (n < 2 ^ 63))
+
+-- The numbers of a row group are those of the format, those of its chunks among them.
+pub record FitsFormat (group : RowGroup) : Type 0 where
+  pub rows : group.rows < 2 ^ 63
+  pub size : group.size < 2 ^ 63
+  pub chunks : All IsFit group.chunks.items
 
 -- PLAIN and RLE, and RLE_DICTIONARY where there is a dictionary
 abbrev pub encodings_of : Bool → List ℕ
@@ -45,5 +53,9 @@ meta_said c = record {
 abbrev pub chunk_said : Chunk → ChunkSaid
 chunk_said c = record { metadata = Some (meta_said c) }
 
-abbrev pub group_said : List Chunk → ℕ → ℕ → GroupSaid
-group_said chunks bytes rows = record { columns = Some (map chunk_said chunks); bytes = Some (pos bytes); rows = Some (pos rows) }
+abbrev pub group_said : RowGroup → GroupSaid
+group_said group = record { columns = Some (map chunk_said group.chunks.items); bytes = Some (pos group.size); rows = Some (pos group.rows) }
+
+-- how many bytes all that is said of the chunks has at most
+abbrev pub chunks_size : List Chunk → ℕ
+chunks_size chunks = sum_by chunk_size (map path_of_chunk chunks)

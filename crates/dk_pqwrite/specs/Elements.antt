@@ -5,6 +5,7 @@ use Rattle.dk_thrift.specs.Writing.{WrittenSoFar, IsOpen, with_bytes}
 use Rattle.std.specs.Ordering.{int_eq}
 use Rattle.dk_pqmodel.specs.FileSchema.{FileNode, file_node, FileNodes, no_nodes, one_node, children_of, is_repeated}
 use Rattle.dk_pqmodel.specs.Footer.{Element, count_of, each_of, schema_element, flat, flat_of}
+use Rattle.dk_pqwrite.specs.declared.element.Element as written
 use Rattle.dk_pqwrite.specs.Said.{ElementSaid, SpellsElementSaid}
 use Rattle.dk_pqwrite.specs.FooterSizes.{element_size}
 use Rattle.dk_pqwrite.specs.Items.{Item, text_item, optional_items, WritesValue}
@@ -20,6 +21,10 @@ fields_said name repetition physical children converted =
       read = record { physical = option_map pos physical; repetition = option_map pos repetition; name = Some name; children = option_map pos children };
       converted = option_map pos converted;
     }
+
+-- and all that an element says
+abbrev pub fields_of_element : written.Element → ElementSaid
+fields_of_element e = fields_said e.name.now e.repetition e.physical e.children e.converted
 
 -- the element that is read of it
 abbrev pub read_element : ElementSaid → Option Element

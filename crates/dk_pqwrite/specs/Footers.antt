@@ -8,9 +8,10 @@ use Rattle.dk_pqmodel.specs.Footer.{Footer, Element, count_of, flat_of, each_of}
 use Rattle.dk_pqmodel.specs.FooterBytes.{SpellsFooter, IsFramed}
 use Rattle.dk_pqwrite.specs.Said.{ElementSaid, SpellsElementSaid, FileSaid, SpellsFileSaid}
 use Rattle.dk_pqwrite.specs.declared.chunk.Chunk.{Chunk}
-use Rattle.dk_pqwrite.specs.Chunks.{chunk_with_path, group_said, path_of_chunk}
+use Rattle.dk_pqwrite.specs.declared.group.RowGroup.{RowGroup}
+use Rattle.dk_pqwrite.specs.Chunks.{chunk_with_path, chunks_size, group_said, path_of_chunk}
 use Rattle.dk_pqwrite.specs.Elements.{fields_said, read_element, said_of}
-use Rattle.dk_pqwrite.specs.FooterSizes.{element_size, chunk_size}
+use Rattle.dk_pqwrite.specs.FooterSizes.{element_size}
 use Rattle.dk_pqwrite.specs.Items.{PutsHeld}
 use Rattle.dk_pqwrite.specs.OverItself.{own_plans, column_path}
 use Rattle.dk_pqwrite.specs.Written.{written_nodes}
@@ -28,7 +29,7 @@ elements_size fs = sum_by element_size (root_said fs ∷ said_of (written_nodes 
 
 -- and with them what is said of the chunks
 abbrev pub footer_size : Fields → List Chunk → ℕ
-footer_size fs chunks = elements_size fs + sum_by chunk_size (map path_of_chunk chunks)
+footer_size fs chunks = elements_size fs + chunks_size chunks
 
 -- The field of the schema's elements is added: the root and all that is below it.
 pub record PutsSchema (fs : Fields) (old new : WrittenSoFar) : Type 0 where
@@ -36,13 +37,12 @@ pub record PutsSchema (fs : Fields) (old new : WrittenSoFar) : Type 0 where
   pub read : each_of read_element (root_said fs ∷ said_of (written_nodes fs)) ≡ Some (root_of fs ∷ flat_of (written_nodes fs))
 
 -- what the fields of the whole say
-abbrev pub file_said : Fields → ℕ → ℕ → List Chunk → FileSaid
-file_said fs rows bytes chunks =
-    record { schema = Some (root_said fs ∷ said_of (written_nodes fs)); rows = Some (pos rows); groups = Some (group_said chunks bytes rows ∷ []) }
+abbrev pub file_said : Fields → RowGroup → FileSaid
+file_said fs group = record { schema = Some (root_said fs ∷ said_of (written_nodes fs)); rows = Some (pos group.rows); groups = Some (group_said group ∷ []) }
 
 -- The bytes are a FileMetaData that says these, and its elements are read.
-pub record SpellsFileFields (fs : Fields) (rows size : ℕ) (chunks : List Chunk) (bytes : List ℕ) : Type 0 where
-  pub spelled : SpellsFileSaid bytes (file_said fs rows size chunks)
+pub record SpellsFileFields (fs : Fields) (group : RowGroup) (bytes : List ℕ) : Type 0 where
+  pub spelled : SpellsFileSaid bytes (file_said fs group)
   pub read : each_of read_element (root_said fs ∷ said_of (written_nodes fs)) ≡ Some (root_of fs ∷ flat_of (written_nodes fs))
 
 -- the chunks are those of the schema's columns, in order
@@ -50,8 +50,9 @@ abbrev pub AreColumnsOf : Fields → List Chunk → Type 0
 AreColumnsOf fs chunks = map path_of_chunk chunks ≡ map column_path (columns_of (own_plans fs []) 0 0)
 
 -- the footer of a file with one row group
-abbrev pub footer_of : Fields → ℕ → List Chunk → Footer
-footer_of fs rows chunks = record { rows = rows; fields = written_nodes fs; groups = record { rows = rows; columns = map chunk_with_path chunks } ∷ [] }
+abbrev pub footer_of : Fields → RowGroup → Footer
+footer_of fs group =
+    record { rows = group.rows; fields = written_nodes fs; groups = record { rows = group.rows; columns = map chunk_with_path group.chunks.items } ∷ [] }
 
 -- The bytes end with a footer that is read so and says this, behind what stood there before.
 abbrev pub EndsFile : Footer → FileSaid → List ℕ → List ℕ → Type 0

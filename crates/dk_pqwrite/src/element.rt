@@ -1,7 +1,7 @@
 //! The elements of the schema, as they are written.
 
 ghost use Rattle.std.specs.Prelude.{OnOk};
-ghost use Rattle.dk_pqwrite.specs.Elements.{WritesElement, fields_said};
+ghost use Rattle.dk_pqwrite.specs.Elements.{WritesElement, fields_of_element};
 ghost use Rattle.dk_thrift.specs.Writing.{IsOpen};
 
 use crate::fields::{put_optional, put_text};
@@ -25,7 +25,7 @@ pub(crate) struct Element<'a> {
 /// An element, as a struct inside another one.
 pub(crate) fn write_element(writer: &mut Writer, element: &Element<'_>) -> Result<(), AllocError>
     requires { IsOpen writer.old }
-    ensures { OnOk result (WritesElement (fields_said element.now.name.now element.now.repetition element.now.physical element.now.children element.now.converted) writer.old writer.new) }
+    ensures { OnOk result (WritesElement (fields_of_element element.now) writer.old writer.new) }
 {
     writer.enter()?;
     put_optional(writer, 1, element.physical)?;

@@ -1,22 +1,21 @@
 //! The footer of a file, and the file around it.
 
-ghost use Rattle.std.specs.Prelude.{◌≡◌, ◌+◌, ◌<◌, ◌≤◌, ◌^◌, ◌++◌, ℕ, length, All, IfOk, List, OnOk};
+ghost use Rattle.std.specs.Prelude.{◌≡◌, ◌+◌, ◌<◌, ◌≤◌, ◌^◌, ◌++◌, ℕ, length, IfOk, List, OnOk};
 ghost use Rattle.dk_grammar.specs.Plain.{little};
 ghost use Rattle.dk_pqmodel.specs.FooterBytes.{SpellsFooter, magic};
 ghost use Rattle.dk_pqmodel.specs.Footer.{count_of};
 ghost use Rattle.dk_pqmodel.specs.NodeView.{fields_of};
 ghost use Rattle.dk_pqmodel.specs.SchemaView.{fields_in};
-ghost use Rattle.dk_pqwrite.specs.Chunks.{IsFit};
-ghost use Rattle.dk_pqwrite.specs.Elements.{fields_said, said_of};
+ghost use Rattle.dk_pqwrite.specs.Chunks.{FitsFormat};
+ghost use Rattle.dk_pqwrite.specs.Elements.{fields_of_element, said_of};
 ghost use Rattle.dk_pqwrite.specs.Footers.{AreColumnsOf, EndsFile, PutsSchema, SpellsFileFields, file_said, footer_of, footer_size, root_said};
 ghost use Rattle.dk_pqwrite.specs.Said.{SpellsFileSaid};
 ghost use Rattle.dk_pqwrite.specs.Written.{written_nodes};
 ghost use Rattle.dk_thrift.specs.Writing.{IsOpen};
 
-use crate::chunk::Chunk;
 use crate::element::{Element, write_element};
 use crate::fields::{I32, I64, LIST, STRUCT, put_number, put_text};
-use crate::group::put_groups;
+use crate::group::{RowGroup, put_groups};
 use crate::nodes::{count_nodes, write_nodes};
 use dk_pqmodel::{Node, Schema};
 use dk_thrift::Writer;
@@ -34,25 +33,21 @@ const CREATED_BY: &str = "deltak";
 /// Ends a file of one row group, whose pages stand behind the first magic: the footer (Apache Parquet, "File format" and "Metadata"), its
 /// length and the magic.
 ///
-/// The chunks are those of the schema's columns, in order. `rows` is how many rows there are, and `size` how many bytes all pages have. The
-/// only error is want of memory; a footer of 4 GiB or more, or more nodes than the format counts, counts as that.
+/// The group's chunks are those of the schema's columns, in order. The only error is want of memory; a footer of 4 GiB or more, or more
+/// nodes than the format counts, counts as that.
 pub(crate) fn end_file(
     alloc: Global,
     bytes: &mut Vec<u8>,
     schema: &Schema,
-    rows: u64,
-    size: u64,
-    chunks: &[Chunk],
+    group: &RowGroup,
 ) -> Result<(), AllocError>
     requires begun { (content : List ℕ) × (bytes.old.items ≡ magic ++ content) }
-    requires rows { rows < 2 ^ 63 }
-    requires size { size < 2 ^ 63 }
-    requires fit { All IsFit chunks.now }
-    requires columns { AreColumnsOf (fields_in schema.now) chunks.now }
-    ensures ended { OnOk result (EndsFile (footer_of (fields_in schema.now) rows chunks.now) (file_said (fields_in schema.now) rows size chunks.now) bytes.old.items bytes.new.items) }
-    ensures size { OnOk result (length bytes.new.items ≤ length bytes.old.items + 78 + footer_size (fields_in schema.now) chunks.now) }
+    requires fit { FitsFormat group.now }
+    requires columns { AreColumnsOf (fields_in schema.now) group.now.chunks.items }
+    ensures ended { OnOk result (EndsFile (footer_of (fields_in schema.now) group.now) (file_said (fields_in schema.now) group.now) bytes.old.items bytes.new.items) }
+    ensures size { OnOk result (length bytes.new.items ≤ length bytes.old.items + 78 + footer_size (fields_in schema.now) group.now.chunks.items) }
 {
-    let footer = write_footer(alloc, schema, rows, size, chunks)?;
+    let footer = write_footer(alloc, schema, group)?;
     close(bytes, &footer)?;
     Ok(())
 }
@@ -81,24 +76,20 @@ fn number(number: u32) -> [u8; 4]
 
 /// The footer of a file of one row group (FileMetaData).
 ///
-/// The chunks are those of the schema's columns, in order. `rows` is how many rows there are, and `size` how many bytes all pages have. The
-/// only error is want of memory; more nodes than the format counts count as that.
+/// The group's chunks are those of the schema's columns, in order. The only error is want of memory; more nodes than the format counts
+/// count as that.
 pub(crate) fn write_footer(
     alloc: Global,
     schema: &Schema,
-    rows: u64,
-    size: u64,
-    chunks: &[Chunk],
+    group: &RowGroup,
 ) -> Result<Vec<u8>, AllocError>
-    requires rows { rows < 2 ^ 63 }
-    requires size { size < 2 ^ 63 }
-    requires fit { All IsFit chunks.now }
-    requires columns { AreColumnsOf (fields_in schema.now) chunks.now }
-    ensures spelled { IfOk result (λ v. SpellsFooter v.items (footer_of (fields_in schema.now) rows chunks.now)) }
-    ensures says { IfOk result (λ v. SpellsFileSaid v.items (file_said (fields_in schema.now) rows size chunks.now)) }
-    ensures size { IfOk result (λ v. length v.items ≤ 70 + footer_size (fields_in schema.now) chunks.now) }
+    requires fit { FitsFormat group.now }
+    requires columns { AreColumnsOf (fields_in schema.now) group.now.chunks.items }
+    ensures spelled { IfOk result (λ v. SpellsFooter v.items (footer_of (fields_in schema.now) group.now)) }
+    ensures says { IfOk result (λ v. SpellsFileSaid v.items (file_said (fields_in schema.now) group.now)) }
+    ensures size { IfOk result (λ v. length v.items ≤ 70 + footer_size (fields_in schema.now) group.now.chunks.items) }
 {
-    let footer = write_fields(alloc, &schema.nodes, rows, size, chunks)?;
+    let footer = write_fields(alloc, &schema.nodes, group)?;
     Ok(footer)
 }
 
@@ -106,21 +97,17 @@ pub(crate) fn write_footer(
 pub(crate) fn write_fields(
     alloc: Global,
     nodes: &[Node],
-    rows: u64,
-    size: u64,
-    chunks: &[Chunk],
+    group: &RowGroup,
 ) -> Result<Vec<u8>, AllocError>
-    requires rows { rows < 2 ^ 63 }
-    requires size { size < 2 ^ 63 }
-    requires fit { All IsFit chunks.now }
-    ensures spelled { IfOk result (λ v. SpellsFileFields (fields_of nodes.now) rows size chunks.now v.items) }
-    ensures size { IfOk result (λ v. length v.items ≤ 70 + footer_size (fields_of nodes.now) chunks.now) }
+    requires { FitsFormat group.now }
+    ensures spelled { IfOk result (λ v. SpellsFileFields (fields_of nodes.now) group.now v.items) }
+    ensures size { IfOk result (λ v. length v.items ≤ 70 + footer_size (fields_of nodes.now) group.now.chunks.items) }
 {
     let mut writer = Writer::new(alloc);
     put_number(&mut writer, 1, I32, VERSION)?;
     put_schema(&mut writer, nodes)?;
-    put_number(&mut writer, 3, I64, rows)?;
-    put_groups(&mut writer, rows, size, chunks)?;
+    put_number(&mut writer, 3, I64, group.rows)?;
+    put_groups(&mut writer, group)?;
     put_text(&mut writer, 6, CREATED_BY)?;
     writer.end()?;
     Ok(writer.finish())
@@ -155,7 +142,7 @@ fn count_elements(nodes: &[Node]) -> Result<u32, AllocError>
 
 /// The element of the root, where the format can count the fields at the top.
 fn root(nodes: &[Node]) -> Result<Element<'static>, AllocError>
-    ensures said { IfOk result (λ e. fields_said e.name.now e.repetition e.physical e.children e.converted ≡ root_said (fields_of nodes.now)) }
+    ensures said { IfOk result (λ e. fields_of_element e ≡ root_said (fields_of nodes.now)) }
     ensures few { IfOk result (λ e. count_of (written_nodes (fields_of nodes.now)) < 2 ^ 31) }
 {
     let count = nodes.len();

@@ -1,12 +1,12 @@
 //! The leaves of a schema, each with its path and its greatest levels.
 
-ghost use Rattle.std.specs.Prelude.{◌≡◌, ◌+◌, ◌<◌, ◌≤◌, [], ◌∷◌, ◌++◌, codes, IfOk, OnOk, map, string_bytes};
-ghost use Rattle.dk_pqmodel.specs.FileMeans.{columns_in, columns_of};
+ghost use Rattle.std.specs.Prelude.{◌≡◌, ◌+◌, ◌<◌, [], ◌∷◌, ◌++◌, codes, IfOk, OnOk, map, string_bytes};
+ghost use Rattle.dk_pqmodel.specs.FileMeans.{columns_in, columns_of, one_if};
 ghost use Rattle.dk_pqmodel.specs.NodeView.{field_of, fields_of};
 ghost use Rattle.dk_pqmodel.specs.SchemaView.{fields_in};
 ghost use Rattle.dk_pqmodel.specs.Shape.{deepest_in, deepest_of};
 ghost use Rattle.dk_pqwrite.specs.OverItself.{own_plan_in, own_plans};
-ghost use Rattle.dk_pqwrite.specs.SchemaLeaves.{AddsLeaves, entry_columns, leaf_view, walked_names, one_leaf_column};
+ghost use Rattle.dk_pqwrite.specs.SchemaLeaves.{AddsLeaves, HasRoom, entry_columns, leaf_view, walked_names, one_leaf_column};
 
 use crate::column::{LeafColumn, LeafKind};
 use dk_pqmodel::{Node, NodeKind, Schema};
@@ -20,161 +20,172 @@ pub(crate) struct SchemaLeaf {
     pub column: LeafColumn,
 }
 
+/// A walk along a schema: the leaves that were met, and the names from the top to where it stands.
+#[derive(Drop)]
+struct LeafWalk<'a> {
+    leaves: Vec<SchemaLeaf>,
+    path: Vec<&'a str>,
+}
+
+/// How deep a node stands: how many lists and maps are around it, and how many nodes that may be null, lists and maps are above it.
+#[derive(Clone, Copy)]
+struct Depth {
+    rep: u8,
+    def: u8,
+}
+
+impl Depth {
+    /// That of what is in a node, which may be null or not.
+    fn below(self, nullable: bool) -> Depth
+        requires { self.def + one_if nullable < 256 }
+        ensures { result ≡ record { rep = self.rep; def = self.def + one_if nullable } }
+    {
+        Depth {
+            rep: self.rep,
+            def: self.def + u8::from(nullable),
+        }
+    }
+
+    /// That of what is in a list or a map.
+    fn inside(self) -> Depth
+        requires { HasRoom self 1 }
+        ensures { result ≡ record { rep = self.rep + 1; def = self.def + 1 } }
+    {
+        Depth {
+            rep: self.rep + 1,
+            def: self.def + 1,
+        }
+    }
+}
+
 /// The leaves of a schema, in the order of its columns.
 pub(crate) fn leaves_of(alloc: Global, schema: &Schema) -> Result<Vec<SchemaLeaf>, AllocError>
     ensures { IfOk result (λ v. map leaf_view v.items ≡ columns_of (own_plans (fields_in schema.now) []) 0 0) }
 {
-    let mut leaves = Vec::new(alloc);
-    let mut path = Vec::new(alloc);
-    add_nodes(alloc, &mut leaves, &mut path, &schema.nodes, 0, 0)?;
-    Ok(leaves)
+    let mut walk = LeafWalk {
+        leaves: Vec::new(alloc),
+        path: Vec::new(alloc),
+    };
+    add_nodes(alloc, &mut walk, &schema.nodes, Depth { rep: 0, def: 0 })?;
+    Ok(walk.leaves)
 }
 
-/// Adds the leaves of nodes that stand beside one another in the group of this path. `rep` is how many lists and maps are around them, and
-/// `def` how many nodes that may be null, lists and maps are above them.
+/// Adds the leaves of nodes that stand beside one another in the group where the walk stands.
 #[cycle(walk)]
 fn add_nodes<'a>(
     alloc: Global,
-    leaves: &mut Vec<SchemaLeaf>,
-    path: &mut Vec<&'a str>,
+    walk: &mut LeafWalk<'a>,
     nodes: &'a [Node],
-    rep: u8,
-    def: u8,
+    depth: Depth,
 ) -> Result<(), AllocError>
-    requires deep { def + deepest_of (fields_of nodes.now) < 256 }
-    requires lists { rep ≤ def }
-    ensures path { OnOk result (path.new.items ≡ path.old.items) }
-    ensures added { OnOk result (AddsLeaves (columns_of (own_plans (fields_of nodes.now) (walked_names path.old.items)) rep def) leaves.old.items leaves.new.items) }
+    requires { HasRoom depth (deepest_of (fields_of nodes.now)) }
+    ensures { OnOk result (AddsLeaves (columns_of (own_plans (fields_of nodes.now) (walked_names walk.old.path.items)) depth.rep depth.def) walk.old walk.new) }
 {
     for node in nodes {
-        add_named(alloc, leaves, path, &node.name, node, rep, def)?;
+        add_named(alloc, walk, &node.name, node, depth)?;
     }
     Ok(())
 }
 
-/// Adds the leaves of a node that has this name in the group of the path.
+/// Adds the leaves of a node that has this name in the group where the walk stands.
 #[cycle(walk)]
 fn add_named<'a>(
     alloc: Global,
-    leaves: &mut Vec<SchemaLeaf>,
-    path: &mut Vec<&'a str>,
+    walk: &mut LeafWalk<'a>,
     name: &'a str,
     node: &'a Node,
-    rep: u8,
-    def: u8,
+    depth: Depth,
 ) -> Result<(), AllocError>
-    requires deep { def + deepest_in (field_of node.now) < 256 }
-    requires lists { rep ≤ def }
-    ensures path { OnOk result (path.new.items ≡ path.old.items) }
-    ensures added { OnOk result (AddsLeaves (columns_in (own_plan_in (field_of node.now) (walked_names path.old.items ++ name.now ∷ [])) rep def) leaves.old.items leaves.new.items) }
+    requires { HasRoom depth (deepest_in (field_of node.now)) }
+    ensures { OnOk result (AddsLeaves (columns_in (own_plan_in (field_of node.now) (walked_names walk.old.path.items ++ name.now ∷ [])) depth.rep depth.def) walk.old walk.new) }
 {
-    path.push(name)?;
-    add_node(alloc, leaves, path, node, rep, def)?;
-    path.pop();
+    walk.path.push(name)?;
+    add_node(alloc, walk, node, depth)?;
+    walk.path.pop();
     Ok(())
 }
 
-/// Adds the leaves of the node of this path.
+/// Adds the leaves of the node where the walk stands.
 #[cycle(walk)]
 fn add_node<'a>(
     alloc: Global,
-    leaves: &mut Vec<SchemaLeaf>,
-    path: &mut Vec<&'a str>,
+    walk: &mut LeafWalk<'a>,
     node: &'a Node,
-    rep: u8,
-    def: u8,
+    depth: Depth,
 ) -> Result<(), AllocError>
-    requires deep { def + deepest_in (field_of node.now) < 256 }
-    requires lists { rep ≤ def }
-    ensures path { OnOk result (path.new.items ≡ path.old.items) }
-    ensures added { OnOk result (AddsLeaves (columns_in (own_plan_in (field_of node.now) (walked_names path.old.items)) rep def) leaves.old.items leaves.new.items) }
+    requires { HasRoom depth (deepest_in (field_of node.now)) }
+    ensures { OnOk result (AddsLeaves (columns_in (own_plan_in (field_of node.now) (walked_names walk.old.path.items)) depth.rep depth.def) walk.old walk.new) }
 {
-    let def = def + u8::from(node.nullable);
+    let depth = depth.below(node.nullable);
     match &node.kind {
-        NodeKind::Flag => add_leaf(alloc, leaves, path, LeafKind::Flag, rep, def),
-        NodeKind::Int32 => add_leaf(alloc, leaves, path, LeafKind::Int32, rep, def),
-        NodeKind::Int64 => add_leaf(alloc, leaves, path, LeafKind::Int64, rep, def),
-        NodeKind::Chars => add_leaf(alloc, leaves, path, LeafKind::Chars, rep, def),
-        NodeKind::Group(nodes) => add_nodes(alloc, leaves, path, nodes, rep, def),
-        NodeKind::List(element) => add_element(alloc, leaves, path, element, rep + 1, def + 1),
-        NodeKind::Map(value) => add_entry(alloc, leaves, path, value, rep + 1, def + 1),
+        NodeKind::Flag => add_leaf(alloc, walk, LeafKind::Flag, depth),
+        NodeKind::Int32 => add_leaf(alloc, walk, LeafKind::Int32, depth),
+        NodeKind::Int64 => add_leaf(alloc, walk, LeafKind::Int64, depth),
+        NodeKind::Chars => add_leaf(alloc, walk, LeafKind::Chars, depth),
+        NodeKind::Group(nodes) => add_nodes(alloc, walk, nodes, depth),
+        NodeKind::List(element) => add_element(alloc, walk, element, depth.inside()),
+        NodeKind::Map(value) => add_entry(alloc, walk, value, depth.inside()),
     }
 }
 
-/// Adds the leaves of the element of the list of this path. The levels are those inside the list.
+/// Adds the leaves of the element of the list where the walk stands. The depth is that inside the list.
 #[cycle(walk)]
 fn add_element<'a>(
     alloc: Global,
-    leaves: &mut Vec<SchemaLeaf>,
-    path: &mut Vec<&'a str>,
+    walk: &mut LeafWalk<'a>,
     element: &'a Node,
-    rep: u8,
-    def: u8,
+    depth: Depth,
 ) -> Result<(), AllocError>
-    requires deep { def + deepest_in (field_of element.now) < 256 }
-    requires lists { rep ≤ def }
-    ensures path { OnOk result (path.new.items ≡ path.old.items) }
-    ensures added { OnOk result (AddsLeaves (columns_in (own_plan_in (field_of element.now) (walked_names path.old.items ++ codes "list" ∷ codes "element" ∷ [])) rep def)
-        leaves.old.items leaves.new.items) }
+    requires { HasRoom depth (deepest_in (field_of element.now)) }
+    ensures { OnOk result (AddsLeaves (columns_in (own_plan_in (field_of element.now) (walked_names walk.old.path.items ++ codes "list" ∷ codes "element" ∷ [])) depth.rep depth.def) walk.old walk.new) }
 {
-    path.push("list")?;
-    add_named(alloc, leaves, path, "element", element, rep, def)?;
-    path.pop();
+    walk.path.push("list")?;
+    add_named(alloc, walk, "element", element, depth)?;
+    walk.path.pop();
     Ok(())
 }
 
-/// Adds the leaves of an entry of the map of this path: its key, and those of its value. The levels are those inside the map.
+/// Adds the leaves of an entry of the map where the walk stands: its key, and those of its value. The depth is that inside the map.
 #[cycle(walk)]
 fn add_entry<'a>(
     alloc: Global,
-    leaves: &mut Vec<SchemaLeaf>,
-    path: &mut Vec<&'a str>,
+    walk: &mut LeafWalk<'a>,
     value: &'a Node,
-    rep: u8,
-    def: u8,
+    depth: Depth,
 ) -> Result<(), AllocError>
-    requires deep { def + deepest_in (field_of value.now) < 256 }
-    requires lists { rep ≤ def }
-    ensures path { OnOk result (path.new.items ≡ path.old.items) }
-    ensures added { OnOk result (AddsLeaves (entry_columns (field_of value.now) (walked_names path.old.items) rep def) leaves.old.items leaves.new.items) }
+    requires { HasRoom depth (deepest_in (field_of value.now)) }
+    ensures { OnOk result (AddsLeaves (entry_columns (field_of value.now) (walked_names walk.old.path.items) depth.rep depth.def) walk.old walk.new) }
 {
-    path.push("key_value")?;
-    add_key(alloc, leaves, path, rep, def)?;
-    add_named(alloc, leaves, path, "value", value, rep, def)?;
-    path.pop();
+    walk.path.push("key_value")?;
+    add_key(alloc, walk, depth)?;
+    add_named(alloc, walk, "value", value, depth)?;
+    walk.path.pop();
     Ok(())
 }
 
-/// Adds the key of a map, a text that is never null. The path is that of the map's entries.
-fn add_key<'a>(
-    alloc: Global,
-    leaves: &mut Vec<SchemaLeaf>,
-    path: &mut Vec<&'a str>,
-    rep: u8,
-    def: u8,
-) -> Result<(), AllocError>
-    ensures path { OnOk result (path.new.items ≡ path.old.items) }
-    ensures added { OnOk result (AddsLeaves (one_leaf_column (walked_names path.old.items ++ codes "key" ∷ []) LeafKind.Chars rep def) leaves.old.items leaves.new.items) }
+/// Adds the key of a map, a text that is never null. The walk stands at the map's entries.
+fn add_key<'a>(alloc: Global, walk: &mut LeafWalk<'a>, depth: Depth) -> Result<(), AllocError>
+    ensures { OnOk result (AddsLeaves (one_leaf_column (walked_names walk.old.path.items ++ codes "key" ∷ []) LeafKind.Chars depth.rep depth.def) walk.old walk.new) }
 {
-    path.push("key")?;
-    add_leaf(alloc, leaves, path, LeafKind::Chars, rep, def)?;
-    path.pop();
+    walk.path.push("key")?;
+    add_leaf(alloc, walk, LeafKind::Chars, depth)?;
+    walk.path.pop();
     Ok(())
 }
 
-/// Adds a leaf of this path.
+/// Adds a leaf where the walk stands.
 fn add_leaf(
     alloc: Global,
-    leaves: &mut Vec<SchemaLeaf>,
-    path: &[&str],
+    walk: &mut LeafWalk<'_>,
     kind: LeafKind,
-    rep: u8,
-    def: u8,
+    depth: Depth,
 ) -> Result<(), AllocError>
-    ensures { OnOk result (AddsLeaves (one_leaf_column (walked_names path.now) kind rep def) leaves.old.items leaves.new.items) }
+    ensures { OnOk result (AddsLeaves (one_leaf_column (walked_names walk.old.path.items) kind depth.rep depth.def) walk.old walk.new) }
 {
-    leaves.push(SchemaLeaf {
-        path: copy_names(alloc, path)?,
+    let path = copy_names(alloc, &walk.path)?;
+    let Depth { rep, def } = depth;
+    walk.leaves.push(SchemaLeaf {
+        path,
         column: LeafColumn { kind, rep, def },
     })?;
     Ok(())

@@ -2,7 +2,7 @@
 
 ghost use Rattle.std.specs.Prelude.{◌≡◌, ◌<◌, ◌^◌, None, Some, codes, IfOk, IfSome, OnOk, length, option_map, pos};
 ghost use Rattle.dk_pqmodel.specs.NodeView.{field_of, fields_of, shape_of};
-ghost use Rattle.dk_pqwrite.specs.Elements.{IsElementOf, WritesNode, WritesNodes, children_said, fields_said, said_of};
+ghost use Rattle.dk_pqwrite.specs.Elements.{IsElementOf, WritesNode, WritesNodes, children_said, fields_of_element, fields_said, said_of};
 ghost use Rattle.dk_pqwrite.specs.Written.{converted_at, nodes_at, physical_at, written_as, written_nodes};
 ghost use Rattle.dk_thrift.specs.Writing.{IsOpen};
 
@@ -78,7 +78,7 @@ fn write_inner(writer: &mut Writer, kind: &NodeKind) -> Result<(), AllocError>
 
 /// The element of a node that is written under this name. Where a group has more fields than the format counts there is no memory for it.
 fn element_of<'a>(name: &'a str, node: &Node) -> Result<Element<'a>, AllocError>
-    ensures { IfOk result (λ e. IsElementOf (fields_said e.name.now e.repetition e.physical e.children e.converted) (written_as name.now (field_of node.now))) }
+    ensures { IfOk result (λ e. IsElementOf (fields_of_element e) (written_as name.now (field_of node.now))) }
 {
     let children = children_of(&node.kind)?;
     Ok(Element {
@@ -92,7 +92,7 @@ fn element_of<'a>(name: &'a str, node: &Node) -> Result<Element<'a>, AllocError>
 
 /// The repeated group of a list or a map.
 fn repeated(name: &str, children: u32) -> Element<'_>
-    ensures { fields_said result.name.now result.repetition result.physical result.children result.converted ≡ fields_said name.now (Some 2) None (Some children) None }
+    ensures { fields_of_element result ≡ fields_said name.now (Some 2) None (Some children) None }
 {
     Element {
         name,
@@ -105,7 +105,7 @@ fn repeated(name: &str, children: u32) -> Element<'_>
 
 /// The key of a map.
 fn key() -> Element<'static>
-    ensures { fields_said result.name.now result.repetition result.physical result.children result.converted ≡ fields_said (codes "key") (Some 0) (Some 6) None (Some 0) }
+    ensures { fields_of_element result ≡ fields_said (codes "key") (Some 0) (Some 6) None (Some 0) }
 {
     Element {
         name: "key",

@@ -1,16 +1,17 @@
 //! Pages (Apache Parquet, "Data Pages").
 
-ghost use Rattle.std.specs.Prelude.{◌≡◌, ◌+◌, ◌*◌, ◌<◌, ◌≤◌, ◌^◌, All, IfOk, None, OnOk, Some, [], length, map, pos};
+ghost use Rattle.std.specs.Prelude.{◌≡◌, ◌+◌, ◌*◌, ◌<◌, ◌≤◌, ◌^◌, IfOk, None, OnOk, Some, [], length, map, pos};
 ghost use Rattle.dk_levels.specs.Borrowed.{borrowed_triple};
 ghost use Rattle.dk_pqmodel.specs.Datum.{chars};
-ghost use Rattle.dk_pqmodel.specs.FilePages.{AreFull, IsDataV1, IsDictionary, IsPage};
+ghost use Rattle.dk_pqmodel.specs.FilePages.{IsDataV1, IsDictionary, IsPage};
 ghost use Rattle.dk_pqmodel.specs.Projection.{Path};
 ghost use Rattle.dk_pqmodel.specs.Shape.{chars as shape_chars};
 ghost use Rattle.dk_pqwrite.specs.Adding.{AddsBytes};
 ghost use Rattle.dk_pqwrite.specs.DataPages.{HoldBoth};
 ghost use Rattle.dk_pqwrite.specs.FirstUses.{AreTheirs, texts_in};
 ghost use Rattle.dk_pqwrite.specs.HeaderBytes.{data_numbers, page_parts};
-ghost use Rattle.dk_pqwrite.specs.PlainValues.{ArePlain, FitsEntry, column_weight, plain_size};
+ghost use Rattle.dk_pqwrite.specs.PlainValues.{ArePlain, plain_size};
+ghost use Rattle.dk_pqwrite.specs.Writable.{IsWritableColumn};
 ghost use Rattle.dk_pqwrite.specs.WrittenColumn.{leaf_column_at, leaf_of_kind, values_of_column};
 
 use crate::column::LeafColumn;
@@ -29,10 +30,7 @@ pub(crate) fn add_plain_page(
     column: LeafColumn,
     triples: &[BorrowedTriple<'_>],
 ) -> Result<(), AllocError>
-    requires full { AreFull (leaf_column_at [] column) (map borrowed_triple triples.now) }
-    requires fit { All (FitsEntry (leaf_of_kind column.kind)) (map borrowed_triple triples.now) }
-    requires few { length triples.now ≤ 2 ^ 26 }
-    requires light { column_weight (map borrowed_triple triples.now) ≤ 2 ^ 30 }
+    requires { IsWritableColumn (leaf_column_at [] column) (map borrowed_triple triples.now) }
     ensures { OnOk result ((path : Path) → AddsBytes (λ bytes. IsDataV1 (leaf_column_at path column) None bytes (map borrowed_triple triples.now))
         (133 + 10 * length triples.now + plain_size (values_of_column (map borrowed_triple triples.now))) out.old.items out.new.items) }
 {
@@ -49,10 +47,8 @@ pub(crate) fn add_coded_page(
     dictionary: &Dictionary<'_>,
     triples: &[BorrowedTriple<'_>],
 ) -> Result<(), AllocError>
-    requires full { AreFull (leaf_column_at [] column) (map borrowed_triple triples.now) }
     requires kind { leaf_of_kind column.kind ≡ shape_chars }
-    requires fit { All (FitsEntry (leaf_of_kind column.kind)) (map borrowed_triple triples.now) }
-    requires few { length triples.now ≤ 2 ^ 26 }
+    requires writable { IsWritableColumn (leaf_column_at [] column) (map borrowed_triple triples.now) }
     requires places { AreTheirs (map (λ k. k.now) dictionary.now.texts.keys) dictionary.now.places.items (texts_in (map borrowed_triple triples.now)) }
     requires distinct { length dictionary.now.texts.keys ≤ 2 ^ 26 }
     ensures { OnOk result ((path : Path) → AddsBytes (λ bytes. IsDataV1 (leaf_column_at path column) (Some (map chars (map (λ k. k.now) dictionary.now.texts.keys))) bytes (map borrowed_triple triples.now))
@@ -100,8 +96,7 @@ fn levels_of(
     column: LeafColumn,
     triples: &[BorrowedTriple<'_>],
 ) -> Result<Vec<u8>, AllocError>
-    requires full { AreFull (leaf_column_at [] column) (map borrowed_triple triples.now) }
-    requires few { length triples.now ≤ 2 ^ 26 }
+    requires { IsWritableColumn (leaf_column_at [] column) (map borrowed_triple triples.now) }
     ensures { IfOk result (λ v. HoldBoth column (map borrowed_triple triples.now) v.items) }
 {
     let mut body = Vec::new(alloc);

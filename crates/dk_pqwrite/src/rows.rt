@@ -14,6 +14,7 @@ ghost use Rattle.dk_pqwrite.specs.WrittenFile.{SaysItsBytes};
 
 use crate::chunk::Chunk;
 use crate::footer::{MAGIC, end_file};
+use crate::group::RowGroup;
 use crate::leaves::{SchemaLeaf, leaves_of};
 use crate::pages::write_column;
 use dk_levels::{BorrowedTriple, shred_borrowed};
@@ -43,14 +44,12 @@ pub fn write_rows(
     bytes.extend_from_slice(MAGIC)?;
     let chunks = write_columns(alloc, &mut bytes, leaves, &columns, dictionary)?;
     let size = bytes.len() - MAGIC.len();
-    end_file(
-        alloc,
-        &mut bytes,
-        schema,
-        rows.len() as u64,
-        size as u64,
-        &chunks,
-    )?;
+    let group = RowGroup {
+        rows: rows.len() as u64,
+        size: size as u64,
+        chunks,
+    };
+    end_file(alloc, &mut bytes, schema, &group)?;
     Ok(bytes)
 }
 
@@ -69,10 +68,10 @@ fn write_columns(
     let mut leaves = leaves.into_iter();
     let mut chunks = Vec::new(alloc);
     for triples in columns {
-        let Some(SchemaLeaf { path, column }) = leaves.next() else {
+        let Some(leaf) = leaves.next() else {
             unreachable!()
         };
-        let chunk = write_column(alloc, out, path, column, triples, dictionary)?;
+        let chunk = write_column(alloc, out, leaf, triples, dictionary)?;
         chunks.push(chunk)?;
     }
     Ok(chunks)

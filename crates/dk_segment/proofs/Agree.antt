@@ -83,7 +83,7 @@ pub record AgreeOn (present other : Place → Bool) (ratified other_ratified : �
   pub staged : (id : ℕ) → IsStaged version id → present (Staged version id) ≡ other (Staged version id)
   pub name : ratified version ≡ other_ratified version
 
-place_alike : (present other : Place → Bool) (ratified other_ratified : ℕ → Option (List ℕ)) (staged_first : Bool) (version : ℕ) → AgreeOn present other ratified other_ratified version
+pub place_alike : (present other : Place → Bool) (ratified other_ratified : ℕ → Option (List ℕ)) (staged_first : Bool) (version : ℕ) → AgreeOn present other ratified other_ratified version
     → commit_place present ratified staged_first version ≡ commit_place other other_ratified staged_first version
 place_alike present other ratified other_ratified staged_first version agree =
     ap₂ (preferred staged_first)
@@ -91,12 +91,12 @@ place_alike present other ratified other_ratified staged_first version agree =
     ∙ named_alike present other version agree.staged (other_ratified version))
     (ap (λ (there : Bool). if there then Some (Commit_at version) else None) agree.commit)
 
-steps_alike : (place_at other : ℕ → Option Place) (v count : ℕ) → ((w : ℕ) → w < v + count → place_at w ≡ other w) → steps_from place_at v count ≡ steps_from other v count
+pub steps_alike : (place_at other : ℕ → Option Place) (v count : ℕ) → ((w : ℕ) → w < v + count → place_at w ≡ other w) → steps_from place_at v count ≡ steps_from other v count
 unfolding steps_from
 steps_alike place_at other v zero same = refl
 steps_alike place_at other v (suc count) same = ap₂ (before_later v) (same v (omega arith)) (steps_alike place_at other (suc v) count (λ w lt. same w (omega arith)))
 
-gap_alike : (place_at other : ℕ → Option Place) (v count : ℕ) → ((w : ℕ) → w < v + count → place_at w ≡ other w) → gap_from place_at v count ≡ gap_from other v count
+pub gap_alike : (place_at other : ℕ → Option Place) (v count : ℕ) → ((w : ℕ) → w < v + count → place_at w ≡ other w) → gap_from place_at v count ≡ gap_from other v count
 unfolding gap_from
 gap_alike place_at other v zero same = refl
 gap_alike place_at other v (suc count) same =

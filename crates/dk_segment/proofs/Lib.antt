@@ -4,5 +4,6 @@ pub mod Choices
 pub mod ListedPlaces
 pub mod Reached
 pub mod Sets
+pub mod Standing
 pub mod StepWalks
 pub mod Walks

@@ -10,6 +10,7 @@ use Rattle.dk_engine.specs.declared.limits.Limits.{Limits}
 use Rattle.dk_engine.specs.declared.limits.Which.TheVariants as which
 use Rattle.dk_engine.specs.declared.refusal.Refusal.{Refusal}
 use Rattle.dk_engine.specs.declared.refusal.Refusal.TheVariants as refusals
+use Rattle.dk_lawful.specs.History.{history}
 use Rattle.dk_lawful.specs.Kept.{IfBoth, KeepsLawful}
 use Rattle.dk_listing.specs.OfEvents.{latest}
 use Rattle.dk_snapshot.specs.declared.table.Snapshot.{Snapshot}
@@ -18,12 +19,13 @@ use Rattle.dk_snapshot.proofs.KeptVersions.{last_read}
 use Rattle.dk_txn.specs.declared.commit.Committed.{Committed}
 use Rattle.dk_txn.specs.declared.start.Start.{Start}
 use Rattle.dk_txn.specs.declared.transaction.Transaction.{Transaction}
-use Rattle.dk_txn.specs.Attempt.{last_version, after_snapshot, start_after, start, own_commit, commit_text, allowed, Writing, if_allowed, if_within, attempt_from, attempt}
-use Rattle.dk_txn.specs.Commits.{Commits, SaysHistory}
+use Rattle.dk_txn.specs.Attempt.{last_version, after_snapshot, start_after, start, own_commit, commit_text, allowed, Writing, written_after, if_allowed, if_within, attempt_from, attempt}
+use Rattle.dk_txn.specs.Commits.{Commits, HistoryAfterCommit, SaysTransacted}
 use Rattle.dk_txn.specs.Transactions.{Outcome, if_headed, headed, oldest_of, and_also, rules_keep, may_come, to_write, outcome_after, outcome_at, reached_at, next_from, outcome, Concludes, IsTransacted, Transacts, Comes, ConcludesHistory}
 use Rattle.dk_txn.proofs.Concluding.{at_version}
 use Rattle.dk_txn.proofs.Headed.{opened_headed}
-use Rattle.dk_txn.proofs.Next.{attempt_next}
+use Rattle.dk_txn.proofs.Lawfully.{nothing_added, refused_same}
+use Rattle.dk_txn.proofs.Next.{Next, attempt_next}
 use Rattle.dk_txn.proofs.Preparing.{none_reached}
 use Rattle.dk_txn.proofs.Starts.{not_chosen}
 
@@ -84,7 +86,7 @@ at_latest events limits t now starts small =
     ap (outcome_at events limits t now) at.next
     ∙ not_chosen (nat_lt last_version t.from.version) (Err (refusals.Limit which.Version last_version)) (outcome_after t limits now t.from.version (reached_at events limits t t.from.version)) fits
     ∙ ap (outcome_after t limits now t.from.version) (none_reached events limits t t.from.version refl)
-    ∙ ap (λ (m : Result (Unit {0}) Refusal). to_write (if_allowed m (if_within limits.object (t.from.version, commit_text t.id now t.actions.items)))) may
+    ∙ ap (λ (m : Result (Unit {0}) Refusal). to_write (if_allowed m (if_within limits.object (written_after t.from (commit_text t.id now t.actions.items))))) may
     ∙ ap (λ (s : Result Start Refusal). to_write (attempted s)) (sym starts)
   where
     attempted : Result Start Refusal → Result Writing Refusal
@@ -111,14 +113,17 @@ module _ (limits : Limits) (now passed : ℤ) (t : Transaction) (own : List Acti
   begun_commits (Some events) later result small did = λ starts.
       concludes (attempt events limits own now id) events result later (subst (λ (meant : Result Outcome Refusal). Concludes meant events result later) (comes_to events starts small) did)
 
-  -- what it was to write may come next
+  -- what it was to write comes next, and is what the law has it commit
+  is_next : (events : List Told) → start events limits now ≡ Ok t.from → t.from.version < 2 ^ 63 → (writing : Writing) → attempt events limits own now id ≡ Ok writing → Next events own id writing
+  is_next events starts small writing is =
+      let from : if_allowed (allowed t.from own id) (if_within limits.object (written_after t.from (commit_text id now own))) ≡ Ok writing =
+      ap (λ (s : Result Start Refusal). attempt_from s limits own now id) (sym starts) ∙ is in
+      let at = at_version (allowed t.from own id) limits.object t.from (commit_text id now own) writing from in
+      attempt_next events limits own now id writing (subst (λ (v : ℕ). v < 2 ^ 63) (sym at) small) is
+
   comes : (events : List Told) → start events limits now ≡ Ok t.from → t.from.version < 2 ^ 63 → (meant : Result Writing Refusal) → attempt events limits own now id ≡ meant → Comes (to_write meant) (own_commit id own) events
   comes events starts small (Err refusal) is = tt
-  comes events starts small (Ok writing) is =
-      let from : if_allowed (allowed t.from own id) (if_within limits.object (t.from.version, commit_text id now own)) ≡ Ok writing =
-      ap (λ (s : Result Start Refusal). attempt_from s limits own now id) (sym starts) ∙ is in
-      let at = at_version (allowed t.from own id) limits.object t.from.version (commit_text id now own) writing from in
-      (attempt_next events limits own now id writing (subst (λ (v : ℕ). v < 2 ^ 63) (sym at) small) is).comes
+  comes events starts small (Ok writing) is = (is_next events starts small writing is).comes
 
   pub begun_comes : (told : Option (List Told)) → t.from.version < 2 ^ 63 → Begun told → IfSome told (λ events. Comes (outcome events limits t passed) (own_commit t.id t.actions.items) events)
   begun_comes None small begun = tt
@@ -126,18 +131,26 @@ module _ (limits : Limits) (now passed : ℤ) (t : Transaction) (own : List Acti
       subst (λ (meant : Result Outcome Refusal). Comes meant (own_commit t.id t.actions.items) events) (sym (comes_to events begun small))
       (subst (λ (commit : List Action). Comes (to_write (attempt events limits own now id)) commit events) (sym (ap₂ own_commit id_is own_is)) (comes events begun small (attempt events limits own now id) refl))
 
-  says : (meant : Result Writing Refusal) (commit : List Action) (events later : List Told) (result : Result Committed Refusal) → ConcludesHistory (to_write meant) commit result events later → SaysHistory commit result events later
-  says (Ok writing) commit events later result said = said
-  says (Err refusal) commit events later result said = said
+  refused : (cause : Refusal) (commit : List Action) (events later : List Told) (result : Result Committed Refusal) → Commits (Err cause) events result (Some later) → HistoryAfterCommit commit result events later
+  refused cause commit events later (Ok committed) (writing, is, at, adds) = absurd (let no : ◌≡◌ {A = Result Writing Refusal} (Err cause) (Ok writing) = is in cc)
+  refused cause commit events later (Err refusal) did = nothing_added refusal commit events later (ap history (refused_same events later refusal cause did))
+
+  says : (events later : List Told) → start events limits now ≡ Ok t.from → t.from.version < 2 ^ 63 → (meant : Result Writing Refusal) → attempt events limits own now id ≡ meant → (result : Result Committed Refusal)
+      → Concludes (to_write meant) events result (Some later) → ConcludesHistory (to_write meant) (own_commit id own) result events later → SaysTransacted now id own result events later
+  says events later starts small (Ok writing) is result did said = λ horizon lawful.
+      subst (λ (commit : List Action). HistoryAfterCommit commit result events later) (sym ((is_next events starts small writing is).law now horizon lawful)) (said horizon lawful)
+  says events later starts small (Err cause) is result did said = λ horizon lawful. refused cause _ events later result did
 
   pub begun_says : (told later : Option (List Told)) (result : Result Committed Refusal) → t.from.version < 2 ^ 63 → Begun told
+      → IfSome told (λ events. Concludes (outcome events limits t passed) events result later)
       → IfBoth told later (λ events after. ConcludesHistory (outcome events limits t passed) (own_commit t.id t.actions.items) result events after)
-      → IfBoth told later (SaysHistory (own_commit id own) result)
-  begun_says None None result small begun said = tt
-  begun_says None (Some later) result small begun said = absurd said
-  begun_says (Some events) None result small begun said = absurd said
-  begun_says (Some events) (Some later) result small begun said =
-      says (attempt events limits own now id) (own_commit id own) events later result
+      → IfBoth told later (SaysTransacted now id own result)
+  begun_says None None result small begun did said = tt
+  begun_says None (Some later) result small begun did said = absurd said
+  begun_says (Some events) None result small begun did said = absurd said
+  begun_says (Some events) (Some later) result small begun did said =
+      says events later begun small (attempt events limits own now id) refl result
+      (subst (λ (meant : Result Outcome Refusal). Concludes meant events result (Some later)) (comes_to events begun small) did)
       (subst (λ (commit : List Action). ConcludesHistory (to_write (attempt events limits own now id)) commit result events later) (ap₂ own_commit id_is own_is)
       (subst (λ (meant : Result Outcome Refusal). ConcludesHistory meant (own_commit t.id t.actions.items) result events later) (comes_to events begun small) said))
 
@@ -183,10 +196,12 @@ module _ (limits : Limits) (now passed : ℤ) (begun filled : Transaction) (own 
   latest_lawful told mid later same begins keeps = subst (λ (o : Option (List Told)). KeepsLawful o later) same (keeps (filled_at told mid same begins))
 
   pub latest_says : (told mid later : Option (List Told)) (result : Result Committed Refusal) → mid ≡ told → BegunAt told
-      → (FilledAt mid → IfBoth mid later (SaysHistory (own_commit filled.id filled.actions.items) result)) → IfBoth told later (SaysHistory (own_commit id own) result)
+      → (FilledAt mid → IfBoth mid later (SaysTransacted passed filled.id filled.actions.items result)) → IfBoth told later (SaysTransacted now id own result)
   latest_says told mid later result same begins says =
-      subst (λ (commit : List Action). IfBoth told later (SaysHistory commit result)) (ap₂ own_commit id_is own_is)
-      (subst (λ (o : Option (List Told)). IfBoth o later (SaysHistory (own_commit filled.id filled.actions.items) result)) same (says (filled_at told mid same begins)))
+      subst (λ (n : ℤ). IfBoth told later (SaysTransacted n id own result)) moment
+      (subst (λ (o : List Action). IfBoth told later (SaysTransacted passed id o result)) own_is
+      (subst (λ (i : ℕ). IfBoth told later (SaysTransacted passed i filled.actions.items result)) id_is
+      (subst (λ (o : Option (List Told)). IfBoth o later (SaysTransacted passed filled.id filled.actions.items result)) same (says (filled_at told mid same begins)))))
 
   pub latest_transacts : (read : Reads) (told mid later : Option (List Told)) (result : Result Committed Refusal) → filled.reads ≡ read → filled.committed ≡ None → mid ≡ told → BegunAt told
       → IfSome mid (λ events. Concludes (outcome events limits filled passed) events result later) → Transacts limits now read own id told result later

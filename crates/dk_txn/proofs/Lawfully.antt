@@ -1,5 +1,5 @@
 -- What a commit of a transaction did to a lawful log, where what it was to write may come next.
-use Rattle.std.proofs.Common.{◌≡◌, ℕ, ℤ, true, false, List, refl, ap, sym, subst, ◌∙◌, inl}
+use Rattle.std.proofs.Common.{◌≡◌, ℕ, ℤ, true, false, List, refl, ap, sym, subst, ◌∙◌, inl, inr}
 use Rattle.std.specs.Prelude.{Option, Some, None, Result, Ok, Err, IfSome, is_some}
 use Rattle.dk_store.specs.Told.{Told}
 use Rattle.dk_model.specs.declared.action.Action.{Action}
@@ -13,15 +13,26 @@ use Rattle.dk_txn.specs.declared.commit.Committed.{Committed}
 use Rattle.dk_txn.specs.declared.prepared.Prepared.{Prepared}
 use Rattle.dk_txn.specs.declared.prepared.Prepared.TheVariants as prepared
 use Rattle.dk_txn.specs.declared.transaction.Transaction.{Transaction}
-use Rattle.dk_txn.specs.Attempt.{own_commit}
-use Rattle.dk_txn.specs.Commits.{HistoryAfterRefusal, SaysHistory, ComesNext}
-use Rattle.dk_txn.specs.Transactions.{Outcome, AlreadyCommitted, ToWrite, outcome, prepared_as, ReadsBack, Comes, ConcludesHistory}
+use Rattle.dk_txn.specs.Attempt.{Writing, own_commit}
+use Rattle.dk_txn.specs.Commits.{CommitRefuses, HistoryAfterRefusal, SaysHistory, ComesNext}
+use Rattle.dk_txn.specs.Transactions.{Outcome, AlreadyCommitted, ToWrite, outcome, by_file_writing, prepared_as, ReadsBack, Comes, ConcludesHistory}
 
 -- ---- nothing was added
 
 pub nothing_added : (refusal : Refusal) (commit : List Action) (events later : List Told) → IsSameHistory events later → HistoryAfterRefusal refusal commit events later
 nothing_added refusals.Store commit events later same = inl same
 nothing_added refusal commit events later same = same
+
+same_told : (events later : List Told) → ◌≡◌ {A = Option (List Told)} (Some later) (Some events) → later ≡ events
+same_told events later is = cc
+
+-- where what is meant is a refusal
+pub refused_same : (events later : List Told) (refusal cause : Refusal) → CommitRefuses refusal (Err cause) events (Some later) → later ≡ events
+refused_same events later refusals.Store cause (inl same) = same_told events later same
+refused_same events later refusals.Store cause (inr (version, (writing, is, at, adds))) = absurd (let no : ◌≡◌ {A = Result Writing Refusal} (Err cause) (Ok writing) = is in cc)
+refused_same events later refusals.OutOfMemory cause did = same_told events later did
+refused_same events later (refusals.Taken path) cause (writing, is, taken) = absurd (let no : ◌≡◌ {A = Result Writing Refusal} (Err cause) (Ok writing) = is in cc)
+refused_same events later refusal cause did = same_told events later did.1
 
 nothing_said : (meant : Result Outcome Refusal) (refusal : Refusal) (commit : List Action) (events : List Told) → ConcludesHistory meant commit (Err refusal) events events
 nothing_said (Ok (AlreadyCommitted version)) refusal commit events = tt
@@ -58,7 +69,7 @@ module _ (limits : Limits) (t : Transaction) (now passed : ℤ) (what : Prepared
   abbrev ComesTold : Option (List Told) → Type 0
   ComesTold told = IfSome told (λ events. Comes (outcome events limits t now) own events)
 
-  is_meant : (events : List Told) → outcome events limits t passed ≡ Ok (prepared_as what) → outcome events limits t now ≡ Ok (ToWrite (writing.version, writing.text.items))
+  is_meant : (events : List Told) → outcome events limits t passed ≡ Ok (prepared_as what) → outcome events limits t now ≡ Ok (ToWrite (by_file_writing writing))
   is_meant events means = ap (λ (n : ℤ). outcome events limits t n) (sym moment) ∙ means ∙ ap (λ (p : Prepared). Ok (prepared_as p)) is
 
   comes_told : (told : Option (List Told)) → Means told → ComesTold told → IfSome told (ComesNext writing.version own)

@@ -1,5 +1,6 @@
 pub mod AtLatest
-mod Clashes
+pub mod Clashes
+mod ByFile
 mod Effects
 mod Headed
 mod RulesOfLaw
@@ -16,4 +17,5 @@ pub mod ReadWinners
 pub mod Preparing
 pub mod Readable
 pub mod Starts
+mod StandingCommits
 pub mod Written

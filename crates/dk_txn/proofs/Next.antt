@@ -31,7 +31,7 @@ use Rattle.dk_snapshot.proofs.KeptVersions.{last_read}
 use Rattle.dk_snapshot.proofs.LastVersion.{latest_is_last}
 use Rattle.dk_snapshot.proofs.LawfulOpens.{opened_is_asked, opened_is_table}
 use Rattle.dk_txn.specs.declared.start.Start.{Start}
-use Rattle.dk_txn.specs.Attempt.{last_version, after_snapshot, start_after, start, unbuilt, unsupported, verdict, own_commit, commit_text, Writing, if_allowed, if_within, attempt_from, attempt}
+use Rattle.dk_txn.specs.Attempt.{last_version, after_snapshot, start_after, start, unbuilt, unsupported, verdict, own_commit, commit_text, Writing, written_after, if_allowed, if_within, attempt_from, attempt}
 use Rattle.dk_txn.specs.Commits.{ComesNext}
 use Rattle.dk_txn.specs.FitLaws.{AttemptsAreTransacted}
 use Rattle.dk_txn.proofs.Headed.{opened_headed}
@@ -115,24 +115,24 @@ comes_next events from actions id begun none rules horizon lawful =
 
 -- what an attempt is to write goes to a free path and comes next
 pub record Next (events : List Told) (actions : List Action) (id : ℕ) (writing : Writing) : Type 0 where
-  pub free : IsNone (object events (commit_path writing.0))
-  pub comes : ComesNext writing.0 (own_commit id actions) events
+  pub free : IsNone (object events (commit_path writing.version))
+  pub comes : ComesNext writing.version (own_commit id actions) events
   pub law : (moment horizon : ℤ) → Lawful events horizon → transacted (commits_of (history events)) moment (id_text id) actions ≡ own_commit id actions
 
 pub within_is : (fit : Result (Unit {0}) Refusal) (meant writing : Writing) → if_fits fit (Ok meant) ≡ Ok writing → meant ≡ writing
 within_is (Ok u) meant writing is = cc
 within_is (Err refusal) meant writing is = cc
 
-pub attempt_next : (events : List Told) (limits : Limits) (actions : List Action) (now : ℤ) (id : ℕ) (writing : Writing) → writing.0 < 2 ^ 63 → attempt events limits actions now id ≡ Ok writing → Next events actions id writing
+pub attempt_next : (events : List Told) (limits : Limits) (actions : List Action) (now : ℤ) (id : ℕ) (writing : Writing) → writing.version < 2 ^ 63 → attempt events limits actions now id ≡ Ok writing → Next events actions id writing
 attempt_next events limits actions now id writing small is = by (start events limits now) refl is
   where
     by_verdict : (from : Start) (name : Option (List ℕ)) (broken : Option ℕ) → start events limits now ≡ Ok from → unbuilt from.before actions ≡ name
-        → first_broken_so_far from.before from.version (own_commit id actions) ≡ broken → if_allowed (verdict name broken) (if_within limits.object (from.version, commit_text id now actions)) ≡ Ok writing → Next events actions id writing
+        → first_broken_so_far from.before from.version (own_commit id actions) ≡ broken → if_allowed (verdict name broken) (if_within limits.object (written_after from (commit_text id now actions))) ≡ Ok writing → Next events actions id writing
     by_verdict from (Some name) broken starts supports rules meant = cc
     by_verdict from None (Some rule) starts supports rules meant = cc
     by_verdict from None None starts supports rules meant =
-        let same : (from.version, commit_text id now actions) ≡ writing = within_is (fits limits.object (Some (length (commit_text id now actions)))) (from.version, commit_text id now actions) writing meant in
-        let at : from.version ≡ writing.0 = ap (λ (w : Writing). w.0) same in
+        let same : written_after from (commit_text id now actions) ≡ writing = within_is (fits limits.object (Some (length (commit_text id now actions)))) (written_after from (commit_text id now actions)) writing meant in
+        let at : from.version ≡ writing.version = ap (λ (w : Writing). w.version) same in
         let begun : Started events from = started events limits now from starts (omega arith) in
         record {
           free = subst (λ v. IsNone (object events (commit_path v))) at begun.free;

@@ -12,7 +12,7 @@ use Rattle.dk_model.specs.State.{steps, steps_of_all}
 use Rattle.dk_conflicts.specs.declared.reads.Reads.{Reads}
 use Rattle.dk_conflicts.specs.declared.claims.Claims.{Claims}
 use Rattle.dk_conflicts.specs.Claims.{AreClaims}
-use Rattle.dk_conflicts.specs.Conflicts.{conflict_from, first_in_the_way, kind_of}
+use Rattle.dk_conflicts.specs.Conflicts.{first_in_the_way, kind_of}
 use Rattle.dk_engine.specs.declared.refusal.Refusal.{Refusal}
 use Rattle.dk_engine.specs.declared.refusal.Refusal.TheVariants as refusals
 use Rattle.dk_engine.specs.Answers.{Refuses}
@@ -31,7 +31,7 @@ use Rattle.dk_segment.proofs.Agree.{walked_standing}
 use Rattle.dk_snapshot.specs.Steps.{AreSized, commit_at_path, step_path}
 use Rattle.dk_snapshot.proofs.Segments.{walked_sized}
 use Rattle.dk_snapshot.proofs.StepReads.{size_of_step}
-use Rattle.dk_txn.specs.Winners.{Since, Own, Others, before_later_commits, winner, since_steps, sources}
+use Rattle.dk_txn.specs.Winners.{Since, Own, Others, before_later_commits, winner, since_steps, sources, conflict_after}
 use Rattle.dk_txn.specs.Transactions.{At_own, After, Reached, come_to}
 
 -- ---- from where they are read
@@ -82,7 +82,7 @@ module _ (reads : Reads) (own : List Action) where
   others_come version state first commit (Err refusal) = refl
   others_come version state first commit (Ok (Own at)) = refl
   others_come version state first commit (Ok (Others winners)) =
-      ap (λ (c : Option (ℕ × Kind)). Ok (After (steps_of_all (steps state commit) winners) c)) (first_joined first version (kind_of reads own commit) (conflict_from reads own (version + 1) winners))
+      ap (λ (c : Option (ℕ × Kind)). Ok (After (steps_of_all (steps state commit) winners) c)) (first_joined first version (kind_of reads own commit) (conflict_after reads own (steps state commit) (version + 1) winners))
 
   -- a commit of another, and what comes later
   other_comes : (id : List ℕ) (version : ℕ) (state : TableState) (first : Option (ℕ × Kind)) (commit : List Action) (later : Result Since Refusal) → list_any (says id) commit ≡ false

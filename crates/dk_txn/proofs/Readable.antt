@@ -21,7 +21,7 @@ use Rattle.dk_model.specs.Changes.{protocol_in}
 use Rattle.dk_lawful.specs.SoFar.{first_broken_so_far, is_written_so_far}
 
 -- the tests in a row that no rule broken passes
-passed : (kept : Bool) (rule : ℕ) (rest : Option ℕ) → (if not kept then Some rule else rest) ≡ None → (kept ≡ true) × (rest ≡ None)
+pub passed : (kept : Bool) (rule : ℕ) (rest : Option ℕ) → (if not kept then Some rule else rest) ≡ None → (kept ≡ true) × (rest ≡ None)
 passed true rule rest none = (refl, none)
 passed false rule rest none = absurd (let no : ◌≡◌ {A = Option ℕ} (Some rule) None = none in cc)
 

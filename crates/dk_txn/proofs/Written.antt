@@ -1,5 +1,5 @@
 -- What is written of an attempt, and what its answer says.
-use Rattle.std.proofs.Common.{◌≡◌, ℕ, ℤ, ◌<◌, ◌^◌, List, ◌∷◌, Some, None, refl, ap, sym, subst, ◌∙◌, true≢false}
+use Rattle.std.proofs.Common.{◌≡◌, ℕ, ℤ, ◌<◌, ◌^◌, List, ◌∷◌, Some, None, refl, ap, sym, subst, ◌∙◌, true≢false, inl, inr}
 use Rattle.std.specs.Prelude.{Option, Result, Ok, Err, IfSome, IsNone, is_some}
 use Rattle.std.specs.List.{AllByRecursion}
 use Rattle.dk_store.specs.declared.event.Put.{Put}
@@ -8,7 +8,7 @@ use Rattle.dk_store.specs.declared.event.StoreError.{StoreError}
 use Rattle.dk_store.specs.declared.event.StoreError.TheVariants as errors
 use Rattle.dk_store.specs.Told.{Told}
 use Rattle.dk_store.specs.Objects.{object}
-use Rattle.dk_store.specs.Writing.{PutsNew}
+use Rattle.dk_store.specs.Writing.{AddsMade, PutsNew}
 use Rattle.dk_model.specs.declared.action.Action.{Action}
 use Rattle.dk_model.specs.CommitText.{commit_of}
 use Rattle.dk_model.specs.ReadBack.{IsReadable, own_info, written_of}
@@ -21,10 +21,12 @@ use Rattle.dk_lawful.specs.Lawful.{Lawful}
 use Rattle.dk_lawful.specs.SoFar.{first_broken_so_far}
 use Rattle.dk_lawful.specs.Kept.{IfBoth, KeepsLawful, HistoryAfterPut}
 use Rattle.dk_lawful.proofs.Puts.{put_keeps_lawful, put_adds_commit}
+use Rattle.dk_txn.specs.declared.attempt.Writing as written
 use Rattle.dk_txn.specs.declared.start.Start.{Start}
 use Rattle.dk_txn.specs.declared.commit.Committed.{Committed}
 use Rattle.dk_txn.specs.Attempt.{unbuilt, verdict, own_commit, allowed}
-use Rattle.dk_txn.specs.Commits.{HistoryAfterCommit, SaysHistory, ComesNext}
+use Rattle.dk_txn.specs.Commits.{Commits, WritesMeant, HistoryAfterCommit, SaysHistory, ComesNext}
+use Rattle.dk_txn.specs.Transactions.{by_file_writing}
 use Rattle.dk_txn.proofs.Readable.{valid_reads}
 
 -- ---- what is to be written
@@ -49,11 +51,37 @@ allowed_reads from actions id text u may reads =
 
 -- ---- what a put did
 
-pub exists_never : (told later : Option (List Told)) (path bytes : List ℕ) (version : ℕ) (put : Put) → path ≡ commit_path version → put ≡ puts.Exists → PutsNew path bytes told (Ok put) later
-    → IfSome told (λ events. IsNone (object events (commit_path version)) → ⊥)
-exists_never None later path bytes version put at exists did = tt
-exists_never (Some events) later path bytes version puts.Made at exists did = absurd (let no : puts.Made ≡ puts.Exists = exists in cc)
-exists_never (Some events) later path bytes version puts.Exists at exists did = λ none. true≢false (sym did.0 ∙ ap (λ p. is_some (object events p)) at ∙ none)
+pub exists_never : (fact : List Told → Type 0) (told later : Option (List Told)) (path bytes : List ℕ) (version : ℕ) (put : Put) → path ≡ commit_path version → put ≡ puts.Exists
+    → PutsNew path bytes told (Ok put) later → IfSome told (λ events. IsNone (object events (commit_path version)) → fact events)
+exists_never fact None later path bytes version put at exists did = tt
+exists_never fact (Some events) later path bytes version puts.Made at exists did = absurd (let no : puts.Made ≡ puts.Exists = exists in cc)
+exists_never fact (Some events) later path bytes version puts.Exists at exists did = λ none. absurd (true≢false (sym did.0 ∙ ap (λ p. is_some (object events p)) at ∙ none))
+
+module _ (path bytes : List ℕ) (writing : written.Writing) (at : path ≡ commit_path writing.version) (same : bytes ≡ writing.text.items) where
+  adds_file : (events : List Told) (later : Option (List Told)) → IsNone (object events (commit_path writing.version)) → AddsMade path bytes (Some events) later
+      → WritesMeant (Ok (by_file_writing writing)) events writing.version later
+  adds_file events later free made = (
+    by_file_writing writing,
+    refl,
+    refl,
+    record {
+      free = free;
+      made = subst (λ (p : List ℕ). AddsMade p writing.text.items (Some events) later) at (subst (λ (b : List ℕ). AddsMade path b (Some events) later) same made);
+    },
+  )
+
+  pub made_commits : (told later : Option (List Told)) (put : Put) → put ≡ puts.Made → PutsNew path bytes told (Ok put) later
+      → IfSome told (λ events. IsNone (object events (commit_path writing.version)) → Commits (Ok (by_file_writing writing)) events (Ok (record { version = writing.version })) later)
+  made_commits None later put made did = tt
+  made_commits (Some events) later puts.Made made did = λ free. adds_file events later free did.1
+  made_commits (Some events) later puts.Exists made did = absurd (let no : puts.Exists ≡ puts.Made = made in cc)
+
+  pub failed_commits : (told later : Option (List Told)) (error : StoreError) → error ≡ errors.Failed → PutsNew path bytes told (Err error) later
+      → IfSome told (λ events. IsNone (object events (commit_path writing.version)) → Commits (Ok (by_file_writing writing)) events (Err refusals.Store) later)
+  failed_commits None later error failed did = tt
+  failed_commits (Some events) later errors.Failed failed (inl unmoved) = λ free. inl unmoved
+  failed_commits (Some events) later errors.Failed failed (inr (none, made)) = λ free. inr (writing.version, adds_file events later free made)
+  failed_commits (Some events) later errors.OutOfMemory failed did = absurd (let no : errors.OutOfMemory ≡ errors.Failed = failed in cc)
 
 pub put_lawful : (version : ℕ) (path bytes text : List ℕ) (commit : List Action) (old new : Option (List Told)) (result : Result Put StoreError) → path ≡ commit_path version → version < 2 ^ 63
     → bytes ≡ text → PutsNew path bytes old result new → commit_of text ≡ Some commit → IfSome old (ComesNext version commit) → KeepsLawful old new

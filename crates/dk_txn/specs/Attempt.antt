@@ -11,12 +11,16 @@ use Rattle.dk_model.specs.Texts.{ByText}
 use Rattle.dk_model.specs.State.{empty_state, steps}
 use Rattle.dk_model.specs.ReadBack.{own_info}
 use Rattle.dk_model.specs.Written.{own_info_line, text_of}
+use Rattle.dk_paths.specs.Names.{commit_path}
 use Rattle.dk_paths.specs.Numbers.{id_text}
+use Rattle.dk_paths.specs.Places.{Staged, place_path}
 use Rattle.dk_engine.specs.declared.limits.Limits.{Limits}
 use Rattle.dk_engine.specs.declared.limits.Which.TheVariants as which
 use Rattle.dk_engine.specs.declared.refusal.Refusal.{Refusal}
 use Rattle.dk_engine.specs.declared.refusal.Refusal.TheVariants as refusals
 use Rattle.dk_features.specs.Support.{unwritten_name}
+use Rattle.dk_lawful.specs.History.{Way, By_file, By_catalogue}
+use Rattle.dk_lawful.specs.Managed.{is_managed}
 use Rattle.dk_lawful.specs.SoFar.{awaited, first_broken_so_far}
 use Rattle.dk_listing.specs.OfEvents.{latest}
 use Rattle.dk_snapshot.specs.declared.table.Snapshot.{Snapshot}
@@ -69,6 +73,17 @@ verdict (Some name) broken = Err (refusals.Unsupported name)
 verdict None (Some rule) = Err (refusals.Invalid rule)
 verdict None None = Ok tt
 
+-- ---- where it is written
+
+-- the way by which a table goes on: its catalogue ratifies staged commits where one manages it; else commits are files of their own
+abbrev pub way_of : TableState → Way
+way_of before = if is_managed before then By_catalogue else By_file
+
+-- the path that the commit of a version is written to: by file its own; by catalogue a staged one, with the id that was drawn for it
+abbrev pub written_path : Way → ℕ → ℕ → List ℕ
+written_path By_file version drawn = commit_path version
+written_path By_catalogue version drawn = place_path (Staged version drawn)
+
 -- ---- what it writes
 
 -- the transaction's own line of that id, and then the actions
@@ -81,20 +96,26 @@ commit_text id now actions = own_info_line (id_text id) now ++ text_of actions
 abbrev pub allowed : Start → List Action → ℕ → Result (Unit {0}) Refusal
 allowed from actions id = verdict (unbuilt from.before actions) (first_broken_so_far from.before from.version (own_commit id actions))
 
--- a version, and the text of its commit
-abbrev pub Writing : Type 0
-Writing = ℕ × List ℕ
+-- a version, the way by which its commit comes, and the text
+pub record Writing : Type 0 where
+  pub version : ℕ
+  pub way : Way
+  pub text : List ℕ
+
+-- a text is written as the version that comes next, by the way by which the table goes on
+abbrev pub written_after : Start → List ℕ → Writing
+written_after from text = record { version = from.version; way = way_of from.before; text = text }
 
 -- a text over the limit of objects isn't written
 abbrev pub if_within : ℕ → Writing → Result Writing Refusal
-if_within limit writing = if_fits (fits limit (Some (length writing.1))) (Ok writing)
+if_within limit writing = if_fits (fits limit (Some (length writing.text))) (Ok writing)
 
 abbrev pub if_allowed : Result (Unit {0}) Refusal → Result Writing Refusal → Result Writing Refusal
 if_allowed (Ok u) writing = writing
 if_allowed (Err refusal) writing = Err refusal
 
 abbrev pub attempt_from : Result Start Refusal → Limits → List Action → ℤ → ℕ → Result Writing Refusal
-attempt_from (Ok from) limits actions now id = if_allowed (allowed from actions id) (if_within limits.object (from.version, commit_text id now actions))
+attempt_from (Ok from) limits actions now id = if_allowed (allowed from actions id) (if_within limits.object (written_after from (commit_text id now actions)))
 attempt_from (Err refusal) limits actions now id = Err refusal
 
 -- what a commit over these events is to write, or why it is refused

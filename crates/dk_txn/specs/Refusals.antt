@@ -1,4 +1,5 @@
 -- The refusals of each call of a transaction, and no others, whether the store tells its events or not.
+use Rattle.std.specs.Prelude.{◌≡◌, Result, Err, IfErr}
 use Rattle.dk_engine.specs.declared.refusal.Refusal.{Refusal}
 use Rattle.dk_engine.specs.declared.refusal.Refusal.TheVariants.{Store, Missing, Unsupported, Damaged, Limit, OutOfMemory, Invalid, Taken, WinnersGone, Conflict}
 
@@ -23,6 +24,11 @@ CheckRefuses (Invalid rule) = Unit {0}
 CheckRefuses (Conflict version kind) = Unit {0}
 CheckRefuses OutOfMemory = Unit {0}
 CheckRefuses refusal = ⊥
+
+-- of what tests a commit with no call of the store
+pub record TestsOnly {X : Type 0} (result : Result X Refusal) : Type 0 where
+  pub store : result ≡ Err Store → ⊥
+  pub refusals : IfErr result CheckRefuses
 
 -- of a commit
 abbrev pub TransactionRefuses : Refusal → Type 0

@@ -12,7 +12,6 @@ use Rattle.dk_model.specs.CommitText.{commit_of}
 use Rattle.dk_model.specs.State.{steps_of_all}
 use Rattle.dk_paths.specs.Numbers.{id_text}
 use Rattle.dk_conflicts.specs.declared.reads.Reads.{Reads}
-use Rattle.dk_conflicts.specs.Conflicts.{conflict_from}
 use Rattle.dk_engine.specs.declared.limits.Limits.{Limits}
 use Rattle.dk_engine.specs.declared.limits.Which.TheVariants as which
 use Rattle.dk_engine.specs.declared.refusal.Refusal.{Refusal}
@@ -23,24 +22,29 @@ use Rattle.dk_lawful.specs.declared.segment.Step.{Step}
 use Rattle.dk_listing.specs.OfEvents.{latest}
 use Rattle.dk_snapshot.specs.declared.table.Snapshot.{Snapshot}
 use Rattle.dk_snapshot.specs.Steps.{oldest_path}
+use Rattle.dk_lawful.specs.History.{By_file}
+use Rattle.dk_txn.specs.declared.attempt.Writing as written
 use Rattle.dk_txn.specs.declared.commit.Committed.{Committed}
 use Rattle.dk_txn.specs.declared.prepared.Prepared.{Prepared}
 use Rattle.dk_txn.specs.declared.prepared.Prepared.TheVariants as prepared
+use Rattle.dk_txn.specs.declared.prepared.Reached as reached_code
+use Rattle.dk_txn.specs.declared.prepared.Reached.TheVariants as reached_codes
 use Rattle.dk_txn.specs.declared.start.Start.{Start}
 use Rattle.dk_txn.specs.declared.transaction.Transaction.{Transaction}
 use Rattle.dk_txn.specs.declared.winners.Found.{Found}
 use Rattle.dk_txn.specs.declared.winners.Found.TheVariants as found
-use Rattle.dk_txn.specs.Attempt.{start, start_of, last_version, own_commit, commit_text, allowed, Writing, if_allowed, if_within}
+use Rattle.dk_txn.specs.Attempt.{start, start_of, last_version, own_commit, commit_text, allowed, Writing, written_after, if_allowed, if_within}
 use Rattle.dk_txn.specs.Commits.{Commits, ComesNext, SaysHistory}
-use Rattle.dk_txn.specs.Winners.{Since, Own, Others, since, since_steps, or_gone}
+use Rattle.dk_txn.specs.Winners.{Since, Own, Others, since, since_steps, or_gone, conflict_after}
 
 -- ---- how it begins
 
--- it has read so much, has this id, and commits nothing yet
+-- it has read so much, has this id, has staged nothing, and commits nothing yet
 pub record IsNew (read : Reads) (drawn : ℕ) (t : Transaction) : Type 0 where
   pub reads : t.reads ≡ read
   pub id : t.id ≡ drawn
   pub actions : t.actions.items ≡ []
+  pub staged : t.staged ≡ None
   pub committed : t.committed ≡ None
   pub small : t.from.version < 2 ^ 63
 
@@ -51,6 +55,7 @@ pub record Begins (snapshot : Option Snapshot) (read : Reads) (number : ℕ) (t 
   pub reads : t.reads ≡ read
   pub id : t.id ≡ number
   pub actions : t.actions.items ≡ []
+  pub staged : t.staged ≡ None
   pub committed : t.committed ≡ None
 
 -- ---- what came since
@@ -63,13 +68,17 @@ pub data Reached : Type 0 where
 -- what the winners from a version on come to, where so much is behind
 abbrev pub come_to : Reads → List Action → ℕ → TableState → Option (ℕ × Kind) → Result Since Refusal → Result Reached Refusal
 come_to reads own version state first (Ok (Own at)) = Ok (At_own at)
-come_to reads own version state first (Ok (Others winners)) = Ok (After (steps_of_all state winners) (option_or first (conflict_from reads own version winners)))
+come_to reads own version state first (Ok (Others winners)) = Ok (After (steps_of_all state winners) (option_or first (conflict_after reads own state version winners)))
 come_to reads own version state first (Err refusal) = Err refusal
 
--- what the code found of them, beside the state that it made
+-- what the code found of them, beside the state that it made, and what it reached
 abbrev pub reached_view : TableState → Found → Reached
 reached_view state (found.Own version) = At_own version
 reached_view state (found.Others conflict) = After state conflict
+
+abbrev pub reached_as : reached_code.Reached → Reached
+reached_as (reached_codes.AtOwn version) = At_own version
+reached_as (reached_codes.After state conflict) = After state conflict
 
 -- ---- whether it may come there
 
@@ -104,7 +113,7 @@ may_come t from conflict = and_also (headed (oldest_of t.segment) from) (rules_k
 
 -- what is to be written there
 abbrev pub writing_at : Transaction → Limits → ℤ → Start → Option (ℕ × Kind) → Result Writing Refusal
-writing_at t limits now from conflict = if_allowed (may_come t from conflict) (if_within limits.object (from.version, commit_text t.id now t.actions.items))
+writing_at t limits now from conflict = if_allowed (may_come t from conflict) (if_within limits.object (written_after from (commit_text t.id now t.actions.items)))
 
 -- ---- what it comes to
 
@@ -123,10 +132,10 @@ outcome_after t limits now next (Ok (At_own version)) = Ok (AlreadyCommitted ver
 outcome_after t limits now next (Ok (After state conflict)) = to_write (writing_at t limits now (record { version = next; before = state }) conflict)
 outcome_after t limits now next (Err refusal) = Err refusal
 
--- by the steps of the winners, from a state on
-abbrev pub reached_by_steps : List Told → Limits → Transaction → TableState → List Step → Result Reached Refusal
-reached_by_steps events limits t state steps =
-    or_gone (come_to t.reads t.actions.items t.from.version state None (since_steps events limits.object (id_text t.id) t.from.version steps))
+-- by the steps of the winners, from a version on
+abbrev pub reached_by_steps : List Told → ℕ → Transaction → ℕ → List Step → Result Reached Refusal
+reached_by_steps events limit t first steps =
+    or_gone (come_to t.reads t.actions.items first t.from.before None (since_steps events limit (id_text t.id) first steps))
 
 abbrev pub reached_at : List Told → Limits → Transaction → ℕ → Result Reached Refusal
 reached_at events limits t next =
@@ -147,16 +156,20 @@ outcome events limits t now = outcome_at events limits t now (next_from t.from.v
 
 abbrev pub version_of_outcome : Outcome → ℕ
 version_of_outcome (AlreadyCommitted version) = version
-version_of_outcome (ToWrite writing) = writing.0
+version_of_outcome (ToWrite writing) = writing.version
 
 abbrev pub version_meant : Result Outcome Refusal → Result ℕ Refusal
 version_meant (Ok outcome) = Ok (version_of_outcome outcome)
 version_meant (Err refusal) = Err refusal
 
+-- what the code writes, which so far is by file
+abbrev pub by_file_writing : written.Writing → Writing
+by_file_writing writing = record { version = writing.version; way = By_file; text = writing.text.items }
+
 -- what the code prepared
 abbrev pub prepared_as : Prepared → Outcome
 prepared_as (prepared.AlreadyCommitted version) = AlreadyCommitted version
-prepared_as (prepared.Writing writing) = ToWrite (writing.version, writing.text.items)
+prepared_as (prepared.Writing writing) = ToWrite (by_file_writing writing)
 
 -- what is to be written has a version that there can be
 abbrev pub IsSmall : Prepared → Type 0
@@ -206,7 +219,7 @@ Transacts limits now read own drawn told (Err refusal) later = (later ≡ told) 
 
 -- what is to be written may come next
 abbrev pub Comes : Result Outcome Refusal → List Action → List Told → Type 0
-Comes (Ok (ToWrite writing)) commit events = ComesNext writing.0 commit events
+Comes (Ok (ToWrite writing)) commit events = ComesNext writing.version commit events
 Comes (Ok (AlreadyCommitted version)) commit events = Unit {0}
 Comes (Err refusal) commit events = Unit {0}
 

@@ -1,10 +1,15 @@
 -- The winners: the commits that came after a transaction's snapshot (Delta Lake's PROTOCOL.md, "Delta Log Entries", "Commit Provenance
 -- Information"), by the events of the store alone.
-use Rattle.std.specs.Prelude.{ℕ, ◌+◌, ◌≡◌, false, List, [], ◌∷◌, Option, Result, Ok, Err, if◌then◌else◌}
+use Rattle.std.specs.Prelude.{ℕ, ◌+◌, ◌≡◌, false, List, [], ◌∷◌, Option, None, Result, Ok, Err, if◌then◌else◌}
 use Rattle.std.specs.List.{list_any}
 use Rattle.dk_store.specs.Told.{Told}
 use Rattle.dk_store.specs.Standings.{standing}
+use Rattle.dk_conflicts.specs.declared.reads.Reads.{Reads}
+use Rattle.dk_conflicts.specs.Conflicts.{first_in_the_way, kind_of}
 use Rattle.dk_model.specs.declared.action.Action.{Action}
+use Rattle.dk_model.specs.declared.kind.Kind.{Kind}
+use Rattle.dk_model.specs.declared.state.TableState.{TableState}
+use Rattle.dk_model.specs.State.{steps}
 use Rattle.dk_paths.specs.Places.{Place}
 use Rattle.dk_engine.specs.declared.refusal.Refusal.{Refusal}
 use Rattle.dk_engine.specs.declared.refusal.Refusal.TheVariants as refusals
@@ -66,6 +71,19 @@ or_gone (Err refusal) = Err (gone refusal)
 -- what came in so many versions from the first on
 abbrev pub since : List Told → ℕ → List ℕ → ℕ → ℕ → Result Since Refusal
 since events limit id first count = or_gone (since_sources events limit id first (sources events first count))
+
+-- ---- which is in the way
+
+-- How a winner is in the way that was committed after this state. The kinds that there are look at the winner alone; what a feature adds that was in
+-- force there is to be said here.
+abbrev pub kind_after : Reads → List Action → TableState → List Action → Option Kind
+kind_after reads own before winner = kind_of reads own winner
+
+-- the first of the winners that is in the way, and how it is, each by the state before it; they are counted from a version on
+abbrev pub conflict_after : Reads → List Action → TableState → ℕ → List (List Action) → Option (ℕ × Kind)
+conflict_after reads own before version [] = None
+conflict_after reads own before version (winner ∷ later) =
+    first_in_the_way version (kind_after reads own before winner) (conflict_after reads own (steps before winner) (version + 1) later)
 
 -- ---- what is found of them
 

@@ -1,8 +1,10 @@
 //! What a commit is to write.
-ghost use Rattle.std.specs.Prelude.{IfErr, ◌≡◌, ℕ, Ok, Err, Some, IfOk};
+ghost use Rattle.std.specs.Prelude.{◌≡◌, ℕ, Some, IfOk};
 ghost use Rattle.dk_engine.specs.Answers.{AnswersMeant};
+ghost use Rattle.dk_lawful.specs.History.{By_file};
 ghost use Rattle.dk_txn.specs.Attempt.{allowed, if_within, unbuilt, unsupported};
-ghost use Rattle.dk_txn.specs.Refusals.{CheckRefuses};
+ghost use Rattle.dk_txn.specs.Refusals.{TestsOnly};
+ghost use Rattle.dk_txn.specs.Transactions.{by_file_writing};
 
 use crate::start::Start;
 use dk_engine::{Refusal, Which};
@@ -55,8 +57,7 @@ fn unbuilt(
 /// Tests whether a commit may come there: that the table is read and written, and then the rules.
 pub(crate) fn check(alloc: Global, from: &Start, actions: &[Action]) -> Result<(), Refusal>
     ensures means { (id : ℕ) → AnswersMeant (λ u. u) result (allowed from.now actions.now id) }
-    ensures store { result ≡ Err Refusal.Store → ⊥ }
-    ensures refusals { IfErr result CheckRefuses }
+    ensures tests { TestsOnly result }
 {
     if let Some(name) = unbuilt(alloc, &from.before, actions)? {
         return Err(Refusal::Unsupported { name });
@@ -69,11 +70,10 @@ pub(crate) fn check(alloc: Global, from: &Start, actions: &[Action]) -> Result<(
 
 /// A text to write, unless it is greater than an object may be, in bytes.
 pub(crate) fn within(limit: u64, version: u64, text: Vec<u8>) -> Result<Writing, Refusal>
-    ensures means { AnswersMeant (λ w. (w.version, w.text.items)) result (if_within limit (version, text.items)) }
+    ensures means { AnswersMeant by_file_writing result (if_within limit (record { version = version; way = By_file; text = text.items })) }
     ensures version { IfOk result (λ w. w.version ≡ version) }
     ensures text { IfOk result (λ w. w.text.items ≡ text.items) }
-    ensures store { result ≡ Err Refusal.Store → ⊥ }
-    ensures refusals { IfErr result CheckRefuses }
+    ensures tests { TestsOnly result }
 {
     let size = text.len() as u64;
     if limit < size {

@@ -10,6 +10,7 @@ ghost use Rattle.dk_paths.specs.Names.{commit_path};
 ghost use Rattle.dk_lawful.specs.Kept.{IfBoth, KeepsLawful};
 ghost use Rattle.dk_txn.specs.Commits.{ComesNext, Commits, CountsClash, SaysHistory};
 ghost use Rattle.dk_txn.specs.Refusals.{TransactionRefuses};
+ghost use Rattle.dk_txn.specs.Transactions.{by_file_writing};
 
 use crate::attempt::Writing;
 use dk_engine::Refusal;
@@ -47,7 +48,7 @@ pub(crate) fn write(
 ) -> Result<Committed, Refusal>
     requires { writing.now.version < 2 ^ 63 }
     ensures commits { IfTold (seen store.old) (λ events. IsNone (object events (commit_path writing.now.version))
-        → Commits (Ok (writing.now.version, writing.now.text.items)) events result (seen store.new).told) }
+        → Commits (Ok (by_file_writing writing.now)) events result (seen store.new).told) }
     ensures puts { MayPut (seen store.old) (seen store.new) result }
     ensures refusals { IfErr result TransactionRefuses }
     ensures clash { CountsClash result (seen store.old).clashes (seen store.new).clashes }

@@ -1,5 +1,5 @@
 //! Laws of transactions, over the events of a store. None of these functions does anything when it runs.
-ghost use Rattle.dk_txn.specs.FitLaws.{AttemptsAreTransacted, FitComes, FitIsNext};
+ghost use Rattle.dk_txn.specs.FitLaws.{AttemptedByFile, AttemptsAreTransacted, FitComes, FitIsNext, StandingIsNext, WrittenByFile};
 ghost use Rattle.dk_txn.specs.Starts.{StartsAsOne, StartsAsSome};
 ghost use Rattle.dk_txn.specs.WinnerLaws.{OthersAreLater, OwnIsHad};
 
@@ -16,6 +16,7 @@ pub fn winners_are_the_history()
 /// the call, is the line of its id and its actions, as long as tables whose commits say their times are refused by name.
 pub fn fit_transactions_come_next()
     ensures next { FitIsNext }
+    ensures standing { StandingIsNext }
     ensures comes { FitComes }
     ensures transacted { AttemptsAreTransacted }
 {}
@@ -24,4 +25,11 @@ pub fn fit_transactions_come_next()
 pub fn transactions_start_as_one()
     ensures some { StartsAsSome }
     ensures one { StartsAsOne }
+{}
+
+/// What a commit is to write comes by file, over any events, as long as tables that a catalogue manages are refused by name (Delta
+/// Lake's PROTOCOL.md, "Catalog-managed tables").
+pub fn commits_come_by_file()
+    ensures written { WrittenByFile }
+    ensures attempted { AttemptedByFile }
 {}

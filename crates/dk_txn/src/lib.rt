@@ -6,6 +6,7 @@ mod attempt;
 mod commit;
 mod latest;
 pub mod laws;
+mod options;
 mod prepared;
 mod start;
 mod text;
@@ -14,4 +15,5 @@ mod winners;
 
 pub use commit::Committed;
 pub use latest::commit_at_latest;
+pub use options::{CommitOptions, Intent};
 pub use transaction::Transaction;

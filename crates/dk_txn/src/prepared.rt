@@ -1,21 +1,22 @@
 //! What a commit of a transaction comes to.
-ghost use Rattle.std.specs.Prelude.{IfErr, ◌≡◌, ◌≤◌, ◌<◌, ◌+◌, ◌^◌, Err, IfOk, length};
+ghost use Rattle.std.specs.Prelude.{IfErr, ◌≡◌, ◌≤◌, ◌<◌, ◌+◌, ◌^◌, IfOk, length};
 ghost use Rattle.dk_store.specs.Seen.{IfTold};
 ghost use Rattle.dk_engine.specs.Effects.{OnlyReads};
 ghost use Rattle.std.specs.Option.{ForSome};
 ghost use Rattle.dk_engine.specs.Answers.{AnswersMeant};
 ghost use Rattle.dk_listing.specs.OfEvents.{IsListingOf};
 ghost use Rattle.dk_snapshot.specs.Steps.{AreSized};
-ghost use Rattle.dk_txn.specs.Transactions.{IsSmall, ReadsBack, headed, may_come, next_from, oldest_of, outcome, outcome_after, prepared_as, reached_view, reached_at, reached_by_steps, rules_keep, to_write, unless_conflict, version_of_outcome, writing_at};
-ghost use Rattle.dk_txn.specs.Refusals.{CheckRefuses};
+ghost use Rattle.dk_txn.specs.Transactions.{IsSmall, ReadsBack, headed, may_come, next_from, oldest_of, outcome, outcome_after, prepared_as, reached_as, reached_by_steps, rules_keep, to_write, unless_conflict, version_of_outcome, writing_at};
+ghost use Rattle.dk_txn.specs.Refusals.{CheckRefuses, TestsOnly};
 
 use crate::attempt::{Writing, check, within};
+use crate::options::CommitOptions;
 use crate::start::Start;
 use crate::text::{commit_text, txn_id};
 use crate::transaction::Transaction;
-use crate::winners::{Found, Winners, find_winners, gone, read_winners};
+use crate::winners::{Found, Own, Winners, find_winners, gone, read_winners};
 use dk_conflicts::Claims;
-use dk_engine::{JsonHandler, Limits, Refusal, Which};
+use dk_engine::{JsonHandler, Refusal, Which};
 use dk_lawful::Segment;
 use dk_listing::Catalogued;
 use dk_model::{Kind, TableState, Text};
@@ -31,6 +32,20 @@ pub(crate) enum Prepared {
     AlreadyCommitted { version: u64 },
     /// This is to be written.
     Writing(Writing),
+}
+
+/// What was reached of the commits that came since a transaction's snapshot.
+#[derive(Drop)]
+pub(crate) enum Reached {
+    /// The transaction's own commit stands already, as this version.
+    AtOwn {
+        version: u64,
+    },
+    /// All are commits of others: the state after them, and the first that is in the way, if one is, by its version.
+    After {
+        state: TableState,
+        conflict: Option<(u64, Kind)>,
+    },
 }
 
 impl Prepared {
@@ -68,8 +83,7 @@ fn oldest_of(segment: &Option<Segment>) -> &str
 /// A table that has begun has a protocol and metadata; else it is damaged as a whole, from its oldest object on.
 fn check_heads(alloc: Global, oldest: &str, from: &Start) -> Result<(), Refusal>
     ensures means { AnswersMeant (λ u. u) result (headed oldest.now from.now) }
-    ensures store { result ≡ Err Refusal.Store → ⊥ }
-    ensures refusals { IfErr result CheckRefuses }
+    ensures tests { TestsOnly result }
 {
     if from.version == 0 {
         return Ok(());
@@ -86,8 +100,7 @@ fn check_heads(alloc: Global, oldest: &str, from: &Start) -> Result<(), Refusal>
 /// The first commit that is in the way refuses.
 fn check_conflict(conflict: Option<(u64, Kind)>) -> Result<(), Refusal>
     ensures means { AnswersMeant (λ u. u) result (unless_conflict conflict) }
-    ensures store { result ≡ Err Refusal.Store → ⊥ }
-    ensures refusals { IfErr result CheckRefuses }
+    ensures tests { TestsOnly result }
 {
     match conflict {
         None => Ok(()),
@@ -103,8 +116,7 @@ fn check_rules(
     conflict: Option<(u64, Kind)>,
 ) -> Result<(), Refusal>
     ensures means { AnswersMeant (λ u. u) result (rules_keep transaction.now from.now conflict) }
-    ensures store { result ≡ Err Refusal.Store → ⊥ }
-    ensures refusals { IfErr result CheckRefuses }
+    ensures tests { TestsOnly result }
 {
     match check(alloc, from, &transaction.actions) {
         Err(refusal) => Err(refusal),
@@ -120,8 +132,7 @@ fn check_all(
     conflict: Option<(u64, Kind)>,
 ) -> Result<(), Refusal>
     ensures means { AnswersMeant (λ u. u) result (may_come transaction.now from.now conflict) }
-    ensures store { result ≡ Err Refusal.Store → ⊥ }
-    ensures refusals { IfErr result CheckRefuses }
+    ensures tests { TestsOnly result }
 {
     match check_heads(alloc, oldest_of(&transaction.segment), from) {
         Err(refusal) => Err(refusal),
@@ -133,23 +144,22 @@ fn check_all(
 fn writing_at(
     alloc: Global,
     json: &mut dyn JsonHandler,
-    limits: Limits,
+    options: CommitOptions,
     transaction: &Transaction,
     from: &Start,
     conflict: Option<(u64, Kind)>,
-    now: i64,
 ) -> Result<Prepared, Refusal>
-    ensures means { AnswersMeant prepared_as result (to_write (writing_at transaction.now limits now from.now conflict)) }
+    ensures means { AnswersMeant prepared_as result (to_write (writing_at transaction.now options.limits options.now from.now conflict)) }
     ensures reads_back { IfOk result (ReadsBack transaction.now.id transaction.now.actions.items) }
     ensures small { from.now.version < 2 ^ 63 → IfOk result IsSmall }
-    ensures store { result ≡ Err Refusal.Store → ⊥ }
-    ensures refusals { IfErr result CheckRefuses }
+    ensures tests { TestsOnly result }
 {
     match check_all(alloc, transaction, from, conflict) {
         Err(refusal) => Err(refusal),
         Ok(()) => {
-            let text = commit_text(alloc, json, &transaction.actions, now, transaction.id)?;
-            match within(limits.object, from.version, text) {
+            let actions = &transaction.actions;
+            let text = commit_text(alloc, json, actions, options.now, transaction.id)?;
+            match within(options.limits.object, from.version, text) {
                 Err(refusal) => Err(refusal),
                 Ok(writing) => Ok(Prepared::Writing(writing)),
             }
@@ -157,139 +167,104 @@ fn writing_at(
     }
 }
 
-/// Reads the winners, and makes `state` the state after them, if all are others'.
+/// Reads the winners, from the state on that the transaction comes after.
 fn reach(
     alloc: Global,
     store: &mut dyn Store,
     json: &mut dyn JsonHandler,
-    limits: Limits,
+    limit: u64,
     transaction: &Transaction,
     winners: &Winners,
-    state: &mut TableState,
-) -> Result<Found, Refusal>
-    requires { transaction.now.from.version + length winners.now.steps.items ≤ 2 ^ 63 }
+) -> Result<Reached, Refusal>
+    requires { winners.now.first + length winners.now.steps.items ≤ 2 ^ 63 }
     ensures reads { OnlyReads (seen store.old) (seen store.new) result }
     ensures refusals { IfErr result CheckRefuses }
     ensures means { IfTold (seen store.old) (λ events. AreSized events winners.now.steps.items winners.now.sizes.items
-        → AnswersMeant (reached_view state.new) result (reached_by_steps events limits transaction.now state.old winners.now.steps.items)) }
+        → AnswersMeant reached_as result (reached_by_steps events limit transaction.now winners.now.first winners.now.steps.items)) }
 {
-    let claims = Claims::new(alloc, &transaction.reads, &transaction.actions)?;
     let id = txn_id(alloc, transaction.id)?;
-    let first = transaction.from.version;
-    match read_winners(
-        alloc,
-        store,
-        json,
-        limits.object,
-        winners,
-        first,
-        id.as_str(),
-        &claims,
-        state,
-    ) {
+    let claims = Claims::new(alloc, &transaction.reads, &transaction.actions)?;
+    let own = Own {
+        id: id.as_str(),
+        claims,
+    };
+    let mut state = transaction.from.before.copy(alloc)?;
+    match read_winners(alloc, store, json, limit, winners, &own, &mut state) {
         Err(refusal) => Err(gone(refusal)),
-        Ok(found) => Ok(found),
+        Ok(Found::Own { version }) => Ok(Reached::AtOwn { version }),
+        Ok(Found::Others { conflict }) => Ok(Reached::After { state, conflict }),
     }
 }
 
-/// What a commit comes to that is to be version `next`, after the winners.
+/// What a commit comes to after the winners.
 fn prepare_after(
     alloc: Global,
     store: &mut dyn Store,
     json: &mut dyn JsonHandler,
-    limits: Limits,
+    options: CommitOptions,
     transaction: &Transaction,
     winners: &Winners,
-    next: u64,
-    now: i64,
 ) -> Result<Prepared, Refusal>
-    requires room { transaction.now.from.version + length winners.now.steps.items ≤ 2 ^ 63 }
-    requires small { next < 2 ^ 63 }
+    requires room { winners.now.first + length winners.now.steps.items ≤ 2 ^ 63 }
+    requires small { winners.now.next < 2 ^ 63 }
     ensures reads { OnlyReads (seen store.old) (seen store.new) result }
     ensures refusals { IfErr result CheckRefuses }
     ensures means { IfTold (seen store.old) (λ events. AreSized events winners.now.steps.items winners.now.sizes.items
-        → AnswersMeant prepared_as result (outcome_after transaction.now limits now next (reached_by_steps events limits transaction.now transaction.now.from.before winners.now.steps.items))) }
+        → AnswersMeant prepared_as result (outcome_after transaction.now options.limits options.now winners.now.next
+        (reached_by_steps events options.limits.object transaction.now winners.now.first winners.now.steps.items))) }
     ensures reads_back { IfOk result (ReadsBack transaction.now.id transaction.now.actions.items) }
     ensures small { IfOk result IsSmall }
 {
-    let mut state = transaction.from.before.copy(alloc)?;
-    match reach(alloc, store, json, limits, transaction, winners, &mut state) {
+    match reach(
+        alloc,
+        store,
+        json,
+        options.limits.object,
+        transaction,
+        winners,
+    ) {
         Err(refusal) => Err(refusal),
-        Ok(Found::Own { version }) => Ok(Prepared::AlreadyCommitted { version }),
-        Ok(Found::Others { conflict }) => {
+        Ok(Reached::AtOwn { version }) => Ok(Prepared::AlreadyCommitted { version }),
+        Ok(Reached::After { state, conflict }) => {
             let from = Start {
-                version: next,
+                version: winners.next,
                 before: state,
             };
-            writing_at(alloc, json, limits, transaction, &from, conflict, now)
+            writing_at(alloc, json, options, transaction, &from, conflict)
         }
     }
 }
 
-/// What a commit comes to that is to be version `next`, by the listing that a survey found.
-fn prepare_next(
-    alloc: Global,
-    store: &mut dyn Store,
-    json: &mut dyn JsonHandler,
-    limits: Limits,
-    transaction: &Transaction,
-    listing: &Catalogued,
-    next: u64,
-    now: i64,
-) -> Result<Prepared, Refusal>
-    requires above { transaction.now.from.version ≤ next }
-    requires small { next < 2 ^ 63 }
-    ensures reads { OnlyReads (seen store.old) (seen store.new) result }
-    ensures refusals { IfErr result CheckRefuses }
-    ensures means { IfTold (seen store.old) (λ events. IsListingOf events listing.now
-        → AnswersMeant prepared_as result (outcome_after transaction.now limits now next (reached_at events limits transaction.now next))) }
-    ensures reads_back { IfOk result (ReadsBack transaction.now.id transaction.now.actions.items) }
-    ensures small { IfOk result IsSmall }
-{
-    let first = transaction.from.version;
-    if first == next {
-        return writing_at(
-            alloc,
-            json,
-            limits,
-            transaction,
-            &transaction.from,
-            None,
-            now,
-        );
-    }
-    match find_winners(alloc, listing, first, next - first) {
-        Err(refusal) => Err(gone(refusal)),
-        Ok(winners) => {
-            prepare_after(alloc, store, json, limits, transaction, &winners, next, now)
-        }
-    }
-}
-
-/// What a commit comes to, by the listing that a survey found.
+/// What a commit comes to, by the listing that a survey found. With no winners nothing is read.
 fn prepare_listed(
     alloc: Global,
     store: &mut dyn Store,
     json: &mut dyn JsonHandler,
-    limits: Limits,
+    options: CommitOptions,
     transaction: &Transaction,
     listing: &Catalogued,
-    now: i64,
 ) -> Result<Prepared, Refusal>
     ensures reads { OnlyReads (seen store.old) (seen store.new) result }
     ensures refusals { IfErr result CheckRefuses }
-    ensures means { IfTold (seen store.old) (λ events. IsListingOf events listing.now → AnswersMeant prepared_as result (outcome events limits transaction.now now)) }
+    ensures means { IfTold (seen store.old) (λ events. IsListingOf events listing.now → AnswersMeant prepared_as result (outcome events options.limits transaction.now options.now)) }
     ensures reads_back { IfOk result (ReadsBack transaction.now.id transaction.now.actions.items) }
     ensures small { IfOk result IsSmall }
 {
-    let next = next_after(transaction.from.version, listing.latest());
+    let from = &transaction.from;
+    let next = next_after(from.version, listing.latest());
     if next > MAX_VERSION {
         return Err(Refusal::Limit {
             which: Which::Version,
             value: MAX_VERSION,
         });
     }
-    prepare_next(alloc, store, json, limits, transaction, listing, next, now)
+    if from.version == next {
+        return writing_at(alloc, json, options, transaction, from, None);
+    }
+    match find_winners(alloc, listing, from.version, next) {
+        Err(refusal) => Err(gone(refusal)),
+        Ok(winners) => prepare_after(alloc, store, json, options, transaction, &winners),
+    }
 }
 
 /// What a commit of the transaction over the store comes to. Nothing is written here.
@@ -297,18 +272,17 @@ pub(crate) fn prepare(
     alloc: Global,
     store: &mut dyn Store,
     json: &mut dyn JsonHandler,
-    limits: Limits,
+    options: CommitOptions,
     transaction: &Transaction,
-    now: i64,
 ) -> Result<Prepared, Refusal>
     ensures reads { OnlyReads (seen store.old) (seen store.new) result }
     ensures refusals { IfErr result CheckRefuses }
-    ensures means { IfTold (seen store.old) (λ events. AnswersMeant prepared_as result (outcome events limits transaction.now now)) }
+    ensures means { IfTold (seen store.old) (λ events. AnswersMeant prepared_as result (outcome events options.limits transaction.now options.now)) }
     ensures reads_back { IfOk result (ReadsBack transaction.now.id transaction.now.actions.items) }
     ensures small { IfOk result IsSmall }
 {
     match survey(alloc, store) {
         Err(refusal) => Err(refusal),
-        Ok(listing) => prepare_listed(alloc, store, json, limits, transaction, &listing, now),
+        Ok(listing) => prepare_listed(alloc, store, json, options, transaction, &listing),
     }
 }

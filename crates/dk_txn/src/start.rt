@@ -8,7 +8,8 @@ ghost use Rattle.dk_listing.specs.OfEvents.{IsListingOf};
 ghost use Rattle.dk_txn.specs.Attempt.{start, start_of};
 ghost use Rattle.dk_txn.specs.Refusals.{BeginRefuses};
 
-use dk_engine::{JsonHandler, Limits, Refusal, Which};
+use crate::options::CommitOptions;
+use dk_engine::{JsonHandler, Refusal, Which};
 use dk_listing::Catalogued;
 use dk_model::TableState;
 use dk_paths::MAX_VERSION;
@@ -30,13 +31,12 @@ fn open_latest_listed(
     alloc: Global,
     store: &mut dyn Store,
     json: &mut dyn JsonHandler,
-    limits: Limits,
+    options: CommitOptions,
     listing: &Catalogued,
-    now: i64,
 ) -> Result<Option<Snapshot>, Refusal>
     ensures reads { OnlyReads (seen store.old) (seen store.new) result }
     ensures refusals { IfErr result BeginRefuses }
-    ensures means { IfTold (seen store.old) (λ events. IsListingOf events listing.now → AnswersMeant start_of result (start events limits now)) }
+    ensures means { IfTold (seen store.old) (λ events. IsListingOf events listing.now → AnswersMeant start_of result (start events options.limits options.now)) }
     ensures small { IfOk result (λ snapshot. ForSome snapshot (λ s. s.version + 1 < 2 ^ 63)) }
 {
     let Some(latest) = listing.latest() else {
@@ -49,7 +49,16 @@ fn open_latest_listed(
         });
     }
     let choice = usual_choice();
-    match open_listed(alloc, store, json, limits, listing, None, &choice, now) {
+    match open_listed(
+        alloc,
+        store,
+        json,
+        options.limits,
+        listing,
+        None,
+        &choice,
+        options.now,
+    ) {
         Err(refusal) => Err(refusal),
         Ok(snapshot) => Ok(Some(snapshot)),
     }
@@ -61,16 +70,15 @@ pub(crate) fn open_latest(
     alloc: Global,
     store: &mut dyn Store,
     json: &mut dyn JsonHandler,
-    limits: Limits,
-    now: i64,
+    options: CommitOptions,
 ) -> Result<Option<Snapshot>, Refusal>
     ensures reads { OnlyReads (seen store.old) (seen store.new) result }
     ensures refusals { IfErr result BeginRefuses }
-    ensures means { IfTold (seen store.old) (λ events. AnswersMeant start_of result (start events limits now)) }
+    ensures means { IfTold (seen store.old) (λ events. AnswersMeant start_of result (start events options.limits options.now)) }
     ensures small { IfOk result (λ snapshot. ForSome snapshot (λ s. s.version + 1 < 2 ^ 63)) }
 {
     match survey(alloc, store) {
         Err(refusal) => Err(refusal),
-        Ok(listing) => open_latest_listed(alloc, store, json, limits, &listing, now),
+        Ok(listing) => open_latest_listed(alloc, store, json, options, &listing),
     }
 }

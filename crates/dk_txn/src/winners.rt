@@ -1,5 +1,5 @@
 //! The winners: the commits that came after a transaction's snapshot.
-ghost use Rattle.std.specs.Prelude.{IfErr, ◌≡◌, ◌≤◌, ◌<◌, ◌+◌, ◌^◌, List, Err, None, IfOk, length, option_and_then, slice_get};
+ghost use Rattle.std.specs.Prelude.{IfErr, ◌≡◌, ◌≤◌, ◌<◌, ◌+◌, ◌-◌, ◌^◌, List, Err, None, IfOk, length, option_and_then, slice_get};
 ghost use Rattle.dk_store.specs.Seen.{IfTold};
 ghost use Rattle.dk_engine.specs.Effects.{OnlyReads};
 ghost use Rattle.std.specs.List.{list_any};
@@ -31,9 +31,20 @@ use std::alloc::Global;
 /// From where the winners are read, the oldest first.
 #[derive(Drop)]
 pub(crate) struct Winners {
+    /// The version of the first.
+    pub first: u64,
+    /// The version that comes after the last.
+    pub next: u64,
     pub steps: Vec<Step>,
     /// The listed size of each, in bytes.
     pub sizes: Vec<Option<u64>>,
+}
+
+/// What a transaction has of its own: its id, in lower case with hyphens, and what its commit claims.
+#[derive(Drop)]
+pub(crate) struct Own<'a> {
+    pub id: &'a str,
+    pub claims: Claims<'a>,
 }
 
 /// What was found of the winners.
@@ -45,24 +56,31 @@ pub(crate) enum Found {
     Others { conflict: Option<(u64, Kind)> },
 }
 
-/// From where the commits of so many versions are read, from `first` on, by the listing that a survey found.
+/// From where the commits from version `first` up to the one before `next` are read, by the listing that a survey found.
 pub(crate) fn find_winners(
     alloc: Global,
     listing: &Catalogued,
     first: u64,
-    count: u64,
+    next: u64,
 ) -> Result<Winners, Refusal>
-    requires { first + count ≤ 2 ^ 63 }
-    ensures found { (events : List Told) → IsListingOf events listing.now → AreWinners events first count result }
-    ensures many { IfOk result (λ winners. length winners.steps.items ≤ count) }
+    requires above { first ≤ next }
+    requires small { next < 2 ^ 63 }
+    ensures found { (events : List Told) → IsListingOf events listing.now → AreWinners events first (next - first) result }
+    ensures many { IfOk result (λ winners. first + length winners.steps.items ≤ next) }
+    ensures ends { IfOk result (λ winners. (winners.first ≡ first) × (winners.next ≡ next)) }
     ensures store { result ≡ Err Refusal.Store → ⊥ }
     ensures refusals { IfErr result ChooseRefuses }
 {
-    match find_commits(alloc, listing, first, count) {
+    match find_commits(alloc, listing, first, next - first) {
         Err(refusal) => Err(refusal),
         Ok(steps) => {
             let sizes = step_sizes(alloc, listing, &steps)?;
-            Ok(Winners { steps, sizes })
+            Ok(Winners {
+                first,
+                next,
+                steps,
+                sizes,
+            })
         }
     }
 }
@@ -131,25 +149,23 @@ pub(crate) fn gone(refusal: Refusal) -> Refusal
     }
 }
 
-/// Reads the winners, the oldest first, each once, up to the transaction's own commit. `first` is the version of the first.
-/// `state` becomes the state after them, if all are others'.
+/// Reads the winners, the oldest first, each once, up to the transaction's own commit. `state` becomes the state after them, if
+/// all are others'.
 pub(crate) fn read_winners(
     alloc: Global,
     store: &mut dyn Store,
     json: &mut dyn JsonHandler,
     limit: u64,
     winners: &Winners,
-    first: u64,
-    id: &str,
-    claims: &Claims<'_>,
+    own: &Own<'_>,
     state: &mut TableState,
 ) -> Result<Found, Refusal>
-    requires { first + length winners.now.steps.items ≤ 2 ^ 63 }
+    requires { winners.now.first + length winners.now.steps.items ≤ 2 ^ 63 }
     ensures reads { OnlyReads (seen store.old) (seen store.new) result }
     ensures refusals { IfErr result ReadRefuses }
-    ensures means { (reads : Reads) (own : List Action) → AreClaims claims.now reads own → IfTold (seen store.old) (λ events.
+    ensures means { (reads : Reads) (actions : List Action) → AreClaims own.now.claims reads actions → IfTold (seen store.old) (λ events.
         AreSized events winners.now.steps.items winners.now.sizes.items
-        → AnswersMeant (reached_view state.new) result (come_to reads own first state.old None (since_steps events limit id.now first winners.now.steps.items))) }
+        → AnswersMeant (reached_view state.new) result (come_to reads actions winners.now.first state.old None (since_steps events limit own.now.id.now winners.now.first winners.now.steps.items))) }
 {
     let mut conflict = None;
     for place in 0..winners.steps.len() {
@@ -158,11 +174,11 @@ pub(crate) fn read_winners(
         match read_step(alloc, store, json, step, size, limit) {
             Err(refusal) => return Err(refusal),
             Ok(commit) => {
-                let version = first + place as u64;
-                if has_id(id, commit.as_slice()) {
+                let version = winners.first + place as u64;
+                if has_id(own.id, commit.as_slice()) {
                     return Ok(Found::Own { version });
                 }
-                conflict = first_conflict(conflict, claims, version, commit.as_slice());
+                conflict = first_conflict(conflict, &own.claims, version, commit.as_slice());
                 state.absorb(alloc, commit)?;
             }
         }

@@ -8,7 +8,7 @@ use dk_engine::{Limits, Refusal};
 use dk_handlers::SerdeJson;
 use dk_model::{Commit, Names, Text};
 use dk_store::{Fault, MemStore, Store};
-use dk_txn::{Transaction, commit_at_latest};
+use dk_txn::{CommitOptions, Intent, Transaction, commit_at_latest};
 use std::alloc::{AllocError, Global};
 use std::process::Abort;
 use std::test::Fail;
@@ -32,10 +32,19 @@ fn put_all(transaction: &mut Transaction, commit: Commit) {
     }
 }
 
+/// The usual limits, and the moment of each call.
+fn usual_options() -> CommitOptions {
+    CommitOptions {
+        limits: Limits::usual(),
+        now: 1000,
+    }
+}
+
 /// The transaction of a case, begun at the latest version.
 fn begun(alloc: Global, store: &mut Contended, reads: Reads) -> Result<Transaction, Refusal> {
     let mut json = SerdeJson::new();
-    Transaction::begin_latest(alloc, store, &mut json, Limits::usual(), reads, 1000, 32)
+    let intent = Intent { reads, id: 32 };
+    Transaction::begin_latest(alloc, store, &mut json, usual_options(), intent)
 }
 
 /// The transaction of a case with its actions; none where it isn't begun.
@@ -59,7 +68,7 @@ fn check(
 ) -> Result<u64, Refusal> {
     let mut json = SerdeJson::new();
     match transaction {
-        Some(transaction) => transaction.check(alloc, store, &mut json, Limits::usual(), 1000),
+        Some(transaction) => transaction.check(alloc, store, &mut json, usual_options()),
         None => Err(Refusal::NotBegun),
     }
 }
@@ -72,7 +81,7 @@ fn commit(
     let mut json = SerdeJson::new();
     match transaction {
         Some(transaction) => {
-            match transaction.commit(alloc, store, &mut json, Limits::usual(), 1000) {
+            match transaction.commit(alloc, store, &mut json, usual_options()) {
                 Ok(committed) => Ok(committed.version),
                 Err(refusal) => Err(refusal),
             }
@@ -91,8 +100,12 @@ fn commit_whole(
 ) -> Result<u64, Refusal> {
     let mut json = SerdeJson::new();
     let usual = Limits::usual();
-    let limits = Limits { object, ..usual };
-    match commit_at_latest(alloc, store, &mut json, limits, reads, own, 1000, 32) {
+    let options = CommitOptions {
+        limits: Limits { object, ..usual },
+        now: 1000,
+    };
+    let intent = Intent { reads, id: 32 };
+    match commit_at_latest(alloc, store, &mut json, options, intent, own) {
         Ok(committed) => Ok(committed.version),
         Err(refusal) => Err(refusal),
     }

@@ -1,7 +1,15 @@
 use Rattle.std.proofs.Common.{refl}
-use Rattle.dk_cli.proofs.Committing.{refused_ends, refused_says}
+use Rattle.dk_txn.specs.Attempt.{attempt}
+use Rattle.dk_cli.proofs.Committing.{committed_ends, refused_ends, refused_puts, refused_says}
 use Rattle.dk_cli.proofs.Once.{done_once, refused_once}
 use Rattle.dk_cli.proofs.commit.commit_actions.Goals as goal
+
+pub returns-in-Err-clause-puts : goal.returns-in-Err-clause-puts
+returns-in-Err-clause-puts g c = refused_puts _ _ c.in-Err.refusal c.in-Err.ensures.puts c.in-Err.ensures.taken
+
+pub returns-in-Ok-clause-answer : goal.returns-in-Ok-clause-answer
+returns-in-Ok-clause-answer g c =
+    committed_ends _ (λ events. attempt events c.args.options.limits c.args.actions c.args.options.now c.args.intent.id) c.in-Ok.committed.version _ _ _ _ c.give_committed.ensures.line c.in-Ok.ensures.commits
 
 pub returns-in-Err-clause-answer : goal.returns-in-Err-clause-answer
 returns-in-Err-clause-answer g c = refused_ends _ c.args.options.limits c.args.actions c.args.options.now c.args.intent.id _ _ c.in-Err.refusal _ refl c.in-Err.ensures.commits

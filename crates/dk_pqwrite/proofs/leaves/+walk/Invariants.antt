@@ -8,5 +8,5 @@ use Rattle.dk_pqwrite.proofs.leaves.+walk.Given as goal
 
 abbrev pub invariant-add_nodes-loop-node : goal.invariant-add_nodes-loop-node
 invariant-add_nodes-loop-node l =
-    LeftToWalk (drop l.node-index l.nodes) l.rep l.def l.path.items l.initial.path.items (map leaf_view l.leaves.items)
-    (map leaf_view l.initial.leaves.items ++ columns_of (own_plans (fields_of l.nodes) (walked_names l.initial.path.items)) l.rep l.def)
+    LeftToWalk (drop l.node-index l.nodes) l.depth l.walk.path.items l.initial.walk.path.items (map leaf_view l.walk.leaves.items)
+    (map leaf_view l.initial.walk.leaves.items ++ columns_of (own_plans (fields_of l.nodes) (walked_names l.initial.walk.path.items)) l.depth.rep l.depth.def)

@@ -37,14 +37,14 @@ returns-clause-written c =
     let keys = c.in_ok-dictionary.dictionary.texts.keys in
     let fit = rw c.requires.kind at c.requires.writable.fit in
     let chunk : Chunk = record {
-      path = c.args.path;
+      path = c.args.leaf.path;
       physical = c.physical_type.result;
       values = length triples;
       size = c.len-end.result - c.len-dictionary_page.result;
       first_page = c.len-first_page.result;
       dictionary_page = Some c.len-dictionary_page.result;
     } in
-    coded_written c.args.column entries (map string_bytes c.args.path.items) chunk
+    coded_written c.args.leaf.column entries (map string_bytes c.args.leaf.path.items) chunk
     (record { typed = c.physical_type.ensures.code; small = c.physical_type.ensures.small; count = sym (length-map triples borrowed_triple); few = c.requires.writable.few; names = refl })
     c.args.out.now c.add_dictionary_page.new.out c.add_coded_page.new.out (shown keys) c.requires.kind (distinct_small entries keys fit c.in_ok-dictionary.ensures.texts) c.requires.begun
     (rw c.as_slice.ensures.keys at c.in_ok-add_dictionary_page.ensures) c.in_ok-add_coded_page.ensures c.len-first_page.ensures (ap Some c.len-dictionary_page.ensures)

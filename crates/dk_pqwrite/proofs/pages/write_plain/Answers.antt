@@ -14,13 +14,13 @@ pub returns-clause-written : goal.returns-clause-written
 returns-clause-written c =
     let triples = c.args.triples.now in
     let chunk : Chunk = record {
-      path = c.args.path;
+      path = c.args.leaf.path;
       physical = c.physical_type.result;
       values = length triples;
       size = c.len-end.result - c.len-first_page.result;
       first_page = c.len-first_page.result;
       dictionary_page = None;
     } in
-    plain_written c.args.column (map borrowed_triple triples) (map string_bytes c.args.path.items) chunk
+    plain_written c.args.leaf.column (map borrowed_triple triples) (map string_bytes c.args.leaf.path.items) chunk
     (record { typed = c.physical_type.ensures.code; small = c.physical_type.ensures.small; count = sym (length-map triples borrowed_triple); few = c.requires.few; names = refl })
     c.args.out.now c.add_plain_page.new.out c.in_ok-add_plain_page.ensures c.len-first_page.ensures refl (rw (c.len-end.ensures, c.len-first_page.ensures) refl)

@@ -29,9 +29,9 @@ write_column-requires-clause-writable c =
     let room : c.loop-triples.triples-index < length c.args.columns.now = search rules in
     let is : c.triples-item.result ≡ get_or c.args.columns.now c.loop-triples.triples-index c.triples-item.result = search rules in
     let read : c.deref.result.now ≡ c.triples-item.result.items = search rules in
-    let next : into_iter_items c.loop-triples.leaves ≡ c.in-Some.field-0 ∷ into_iter_items c.next.new.self = c.next.ensures.items ∙ rw c.in-Some.is refl in
-    at_any_path c.in-Some.field-0 c.triples-item.result.items c.deref.result.now read
-    (writable c.args.columns.now c.loop-triples.triples-index c.triples-item.result room is (leaf_view c.in-Some.field-0) (map leaf_view c.args.leaves.items) (map leaf_view (into_iter_items c.loop-triples.leaves))
+    let next : into_iter_items c.loop-triples.leaves ≡ c.in-Some.leaf ∷ into_iter_items c.next.new.self = c.next.ensures.items ∙ rw c.in-Some.is refl in
+    at_any_path c.in-Some.leaf c.triples-item.result.items c.deref.result.now read
+    (writable c.args.columns.now c.loop-triples.triples-index c.triples-item.result room is (leaf_view c.in-Some.leaf) (map leaf_view c.args.leaves.items) (map leaf_view (into_iter_items c.loop-triples.leaves))
     (map leaf_view (into_iter_items c.next.new.self)) c.loop-triples.chunks.items c.args.out.now.items c.loop-triples.out.items c.loop-triples.invariant.0 (ap (map leaf_view) next))
 
 pub loop-triples-preserved : goal.loop-triples-preserved
@@ -39,16 +39,16 @@ loop-triples-preserved c =
     let room : c.loop-triples.triples-index < length c.args.columns.now = search rules in
     let is : c.triples-item.result ≡ get_or c.args.columns.now c.loop-triples.triples-index c.triples-item.result = search rules in
     let read : c.deref.result.now ≡ c.triples-item.result.items = search rules in
-    let next : into_iter_items c.loop-triples.leaves ≡ c.in-Some.field-0 ∷ into_iter_items c.next.new.self = c.next.ensures.items ∙ rw c.in-Some.is refl in
+    let next : into_iter_items c.loop-triples.leaves ≡ c.in-Some.leaf ∷ into_iter_items c.next.new.self = c.next.ensures.items ∙ rw c.in-Some.is refl in
     let pushed : c.push.new.self.items ≡ c.loop-triples.chunks.items ++ c.in_ok-chunk.chunk ∷ [] = search rules in
     let fewer : into_iter_len c.next.new.self + 1 ≡ into_iter_len c.loop-triples.leaves = search rules in (
-      next_column c.args.columns.now c.loop-triples.triples-index c.triples-item.result room is (leaf_view c.in-Some.field-0) c.in_ok-chunk.chunk (map leaf_view c.args.leaves.items)
+      next_column c.args.columns.now c.loop-triples.triples-index c.triples-item.result room is (leaf_view c.in-Some.leaf) c.in_ok-chunk.chunk (map leaf_view c.args.leaves.items)
           (map leaf_view (into_iter_items c.loop-triples.leaves)) (map leaf_view (into_iter_items c.next.new.self)) c.loop-triples.chunks.items c.push.new.self.items c.args.out.now.items c.loop-triples.out.items
           c.write_column.new.out.items c.loop-triples.invariant.0 (ap (map leaf_view) next)
-          (of_leaf c.in-Some.field-0 c.triples-item.result.items c.deref.result.now c.in_ok-chunk.chunk c.loop-triples.out.items c.write_column.new.out.items
+          (of_leaf c.in-Some.leaf c.triples-item.result.items c.deref.result.now c.in_ok-chunk.chunk c.loop-triples.out.items c.write_column.new.out.items
           read c.in_ok-chunk.ensures.written)
           pushed,
-      one_less c.in-Some.field-0 (into_iter_items c.loop-triples.leaves) (into_iter_items c.next.new.self) (into_iter_len c.loop-triples.leaves) (into_iter_len c.next.new.self) c.loop-triples.invariant.1 next fewer,
+      one_less c.in-Some.leaf (into_iter_items c.loop-triples.leaves) (into_iter_items c.next.new.self) (into_iter_len c.loop-triples.leaves) (into_iter_len c.next.new.self) c.loop-triples.invariant.1 next fewer,
     )
 
 pub returns : goal.returns

@@ -1,37 +1,36 @@
-use Rattle.std.proofs.Common.{ap, ◌∙◌}
-use Rattle.std.proofs.lemmas.Int.{to_z-of_z}
-use mir.Syntax.{w64}
+use Rattle.std.proofs.Common.{refl, ap, ◌∙◌}
 use Rattle.dk_txn.specs.declared.transaction.Transaction.{Transaction}
 use Rattle.dk_txn.proofs.Refusals.{begin_in_one, commit_in_one}
 use Rattle.dk_txn.specs.declared.commit.Committed.{Committed}
+use Rattle.dk_txn.proofs.Clashes.{begins_untaken, taken_from}
 use Rattle.dk_txn.proofs.Effects.{refused_puts, puts_after_reads}
 use Rattle.dk_txn.proofs.AtLatest.{filled_items, latest_commits, latest_lawful, latest_says, latest_transacts}
 use Rattle.dk_txn.proofs.latest.commit_at_latest.Goals as goal
 
 pub returns-in-Ok-with_actions-clause-commits : goal.returns-in-Ok-with_actions-clause-commits
 returns-in-Ok-with_actions-clause-commits g c =
-    latest_commits c.args.limits c.args.now _ c.in-Ok.begun c.in-Ok-with_actions.transaction c.args.actions c.args.id (to_z-of_z w64 c.args.now c.ranges.now)
+    latest_commits c.args.options.limits c.args.options.now _ c.in-Ok.begun c.in-Ok-with_actions.transaction c.args.actions c.args.intent.id refl
     (ap (λ (t : Transaction). t.from) c.in-Ok-with_actions.ensures.same) (filled_items c.in-Ok.begun c.in-Ok-with_actions.transaction c.args.actions c.in-Ok.ensures.new.actions c.in-Ok-with_actions.ensures.laid) (ap (λ (t : Transaction). t.id) c.in-Ok-with_actions.ensures.same ∙ c.in-Ok.ensures.new.id)
     _ _ _ c.commit_fresh.result c.in-Ok.ensures.reads.same c.in-Ok.ensures.means c.commit_fresh.ensures.commits
 
 pub returns-in-Ok-with_actions-clause-lawful : goal.returns-in-Ok-with_actions-clause-lawful
 returns-in-Ok-with_actions-clause-lawful g c =
-    latest_lawful c.args.limits c.args.now _ c.in-Ok.begun c.in-Ok-with_actions.transaction c.args.actions c.args.id (to_z-of_z w64 c.args.now c.ranges.now)
+    latest_lawful c.args.options.limits c.args.options.now _ c.in-Ok.begun c.in-Ok-with_actions.transaction c.args.actions c.args.intent.id refl
     (ap (λ (t : Transaction). t.from) c.in-Ok-with_actions.ensures.same) (filled_items c.in-Ok.begun c.in-Ok-with_actions.transaction c.args.actions c.in-Ok.ensures.new.actions c.in-Ok-with_actions.ensures.laid) (ap (λ (t : Transaction). t.id) c.in-Ok-with_actions.ensures.same ∙ c.in-Ok.ensures.new.id)
     _ _ _ c.in-Ok.ensures.reads.same c.in-Ok.ensures.means c.commit_fresh.ensures.lawful
 
 pub returns-in-Ok-with_actions-clause-history : goal.returns-in-Ok-with_actions-clause-history
 returns-in-Ok-with_actions-clause-history g c =
-    latest_says c.args.limits c.args.now _ c.in-Ok.begun c.in-Ok-with_actions.transaction c.args.actions c.args.id (to_z-of_z w64 c.args.now c.ranges.now)
+    latest_says c.args.options.limits c.args.options.now _ c.in-Ok.begun c.in-Ok-with_actions.transaction c.args.actions c.args.intent.id refl
     (ap (λ (t : Transaction). t.from) c.in-Ok-with_actions.ensures.same) (filled_items c.in-Ok.begun c.in-Ok-with_actions.transaction c.args.actions c.in-Ok.ensures.new.actions c.in-Ok-with_actions.ensures.laid) (ap (λ (t : Transaction). t.id) c.in-Ok-with_actions.ensures.same ∙ c.in-Ok.ensures.new.id)
     _ _ _ c.commit_fresh.result c.in-Ok.ensures.reads.same c.in-Ok.ensures.means c.commit_fresh.ensures.history
 
 pub returns-in-Ok-with_actions-clause-transacts : goal.returns-in-Ok-with_actions-clause-transacts
 returns-in-Ok-with_actions-clause-transacts g c =
-    latest_transacts c.args.limits c.args.now _ c.in-Ok.begun c.in-Ok-with_actions.transaction c.args.actions c.args.id (to_z-of_z w64 c.args.now c.ranges.now)
+    latest_transacts c.args.options.limits c.args.options.now _ c.in-Ok.begun c.in-Ok-with_actions.transaction c.args.actions c.args.intent.id refl
     (ap (λ (t : Transaction). t.from) c.in-Ok-with_actions.ensures.same) (filled_items c.in-Ok.begun c.in-Ok-with_actions.transaction c.args.actions c.in-Ok.ensures.new.actions c.in-Ok-with_actions.ensures.laid)
     (ap (λ (t : Transaction). t.id) c.in-Ok-with_actions.ensures.same ∙ c.in-Ok.ensures.new.id)
-    c.args.reads _ _ _ c.commit_fresh.result (ap (λ (t : Transaction). t.reads) c.in-Ok-with_actions.ensures.same ∙ c.in-Ok.ensures.new.reads)
+    c.args.intent.reads _ _ _ c.commit_fresh.result (ap (λ (t : Transaction). t.reads) c.in-Ok-with_actions.ensures.same ∙ c.in-Ok.ensures.new.reads)
     (ap (λ (t : Transaction). t.committed) c.in-Ok-with_actions.ensures.same ∙ c.in-Ok.ensures.new.committed)
     c.in-Ok.ensures.reads.same c.in-Ok.ensures.means c.commit_fresh.ensures.concludes
 
@@ -46,3 +45,9 @@ returns-in-Err-clause-puts g c = refused_puts {X = Transaction} {Y = Committed} 
 
 pub returns-in-Ok-with_actions-clause-puts : goal.returns-in-Ok-with_actions-clause-puts
 returns-in-Ok-with_actions-clause-puts g c = puts_after_reads {X = Transaction} {Y = Committed} _ _ _ _ c.commit_fresh.result c.in-Ok.ensures.reads c.commit_fresh.ensures.puts
+
+pub returns-in-Err-clause-taken : goal.returns-in-Err-clause-taken
+returns-in-Err-clause-taken g c = begins_untaken c.in-Err.refusal _ _ c.in-Err.ensures.refusals
+
+pub returns-in-Ok-with_actions-clause-taken : goal.returns-in-Ok-with_actions-clause-taken
+returns-in-Ok-with_actions-clause-taken g c = taken_from c.commit_fresh.result _ _ _ c.in-Ok.ensures.reads.clashes_same c.commit_fresh.ensures.taken

@@ -1,20 +1,29 @@
-use Rattle.std.proofs.Common.{◌∙◌}
-use Rattle.dk_txn.specs.Transactions.{reached_view}
+use Rattle.std.proofs.Common.{ap, ◌∙◌}
+use Rattle.dk_txn.specs.Transactions.{reached_view, At_own, After}
+use Rattle.dk_txn.specs.declared.winners.Found.{Found}
 use Rattle.dk_txn.proofs.Refusals.{read_is_gone}
 use Rattle.dk_txn.proofs.Preparing.{reach_refused, reach_found}
 use Rattle.dk_txn.proofs.prepared.reach.Goals as goal
 
 pub returns-in-Err-clause-means : goal.returns-in-Err-clause-means
 returns-in-Err-clause-means g c =
-    reach_refused c.args.limits c.args.transaction.now c.args.state.now c.args.winners.now.steps.items c.args.winners.now.sizes.items c.deref.result.now c.as_str.result.now
-    c.deref.ensures.value (c.as_str.ensures.value ∙ c.in_ok-id.ensures) _ c.in-Err.refusal c.gone.result c.gone.ensures
+    reach_refused c.args.limit c.args.transaction.now c.args.winners.now.first c.in_ok-state.state c.args.winners.now.steps.items c.args.winners.now.sizes.items c.deref.result.now c.as_str.result.now
+    c.in_ok-state.ensures c.deref.ensures.value (c.as_str.ensures.value ∙ c.in_ok-id.ensures) _ c.in-Err.refusal c.gone.result c.gone.ensures
     (c.in-Err.ensures.means c.args.transaction.now.reads c.deref.result.now c.in_ok-claims.ensures)
+
+pub returns-in-Ok-Own-clause-means : goal.returns-in-Ok-Own-clause-means
+returns-in-Ok-Own-clause-means g c =
+    reach_found c.args.limit c.args.transaction.now c.args.winners.now.first c.in_ok-state.state c.args.winners.now.steps.items c.args.winners.now.sizes.items c.deref.result.now c.as_str.result.now
+    c.in_ok-state.ensures c.deref.ensures.value (c.as_str.ensures.value ∙ c.in_ok-id.ensures) _ c.read_winners.new.state c.in-Ok-Own.field-0 (At_own c.in-Ok-Own.version)
+    (ap (λ (f : Found). reached_view c.read_winners.new.state f) c.in-Ok-Own.field-0-is)
+    (c.in-Ok-Own.ensures.means c.args.transaction.now.reads c.deref.result.now c.in_ok-claims.ensures)
 
 pub returns-clause-means : goal.returns-clause-means
 returns-clause-means g c =
-    reach_found c.args.limits c.args.transaction.now c.args.state.now c.args.winners.now.steps.items c.args.winners.now.sizes.items c.deref.result.now c.as_str.result.now
-    c.deref.ensures.value (c.as_str.ensures.value ∙ c.in_ok-id.ensures) _ (reached_view c.read_winners.new.state c.in-Ok.found)
-    (c.in-Ok.ensures.means c.args.transaction.now.reads c.deref.result.now c.in_ok-claims.ensures)
+    reach_found c.args.limit c.args.transaction.now c.args.winners.now.first c.in_ok-state.state c.args.winners.now.steps.items c.args.winners.now.sizes.items c.deref.result.now c.as_str.result.now
+    c.in_ok-state.ensures c.deref.ensures.value (c.as_str.ensures.value ∙ c.in_ok-id.ensures) _ c.read_winners.new.state c.in-Ok-Others.field-0 (After c.read_winners.new.state c.in-Ok-Others.conflict)
+    (ap (λ (f : Found). reached_view c.read_winners.new.state f) c.in-Ok-Others.field-0-is)
+    (c.in-Ok-Others.ensures.means c.args.transaction.now.reads c.deref.result.now c.in_ok-claims.ensures)
 
 pub returns-in-Err-clause-refusals : goal.returns-in-Err-clause-refusals
 returns-in-Err-clause-refusals g c = read_is_gone c.in-Err.refusal c.gone.result c.gone.ensures c.in-Err.ensures.refusals

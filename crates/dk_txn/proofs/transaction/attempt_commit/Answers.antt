@@ -1,5 +1,4 @@
-use Rattle.std.proofs.lemmas.Int.{to_z-of_z}
-use mir.Syntax.{w64}
+use Rattle.std.proofs.Common.{refl}
 use Rattle.dk_txn.specs.declared.prepared.Prepared.{Prepared}
 use Rattle.dk_txn.proofs.Refusals.{check_commits}
 use Rattle.dk_txn.proofs.Clashes.{never_clashed, counted_from}
@@ -11,28 +10,28 @@ use Rattle.dk_txn.proofs.transaction.attempt_commit.Goals as goal
 
 pub returns-in-Err-clause-commits : goal.returns-in-Err-clause-commits
 returns-in-Err-clause-commits g c =
-    once_refused _ _ c.args.limits c.args.transaction.now c.args.now _ c.in-Err.refusal (to_z-of_z w64 c.args.now c.ranges.now) c.in-Err.ensures.reads.same c.in-Err.ensures.means
+    once_refused _ _ c.args.options.limits c.args.transaction.now c.args.options.now _ c.in-Err.refusal refl c.in-Err.ensures.reads.same c.in-Err.ensures.means
 
 pub returns-in-Ok-Writing-clause-commits : goal.returns-in-Ok-Writing-clause-commits
 returns-in-Ok-Writing-clause-commits g c =
-    once_prepared _ _ _ c.args.limits c.args.transaction.now c.args.now _ c.in-Ok-Writing.field-0 c.in-Ok-Writing.writing c.write.result (to_z-of_z w64 c.args.now c.ranges.now) c.in-Ok-Writing.ensures.reads.same
+    once_prepared _ _ _ c.args.options.limits c.args.transaction.now c.args.options.now _ c.in-Ok-Writing.field-0 c.in-Ok-Writing.writing c.write.result refl c.in-Ok-Writing.ensures.reads.same
     c.in-Ok-Writing.field-0-is c.in-Ok-Writing.ensures.small c.in-Ok-Writing.ensures.means c.write.ensures.commits
 
 pub returns-in-Err-clause-history : goal.returns-in-Err-clause-history
-returns-in-Err-clause-history g c = λ comes. refused_says _ _ c.args.limits c.args.transaction.now _ c.in-Err.refusal _ c.in-Err.ensures.reads.same
+returns-in-Err-clause-history g c = λ comes. refused_says _ _ c.args.options.limits c.args.transaction.now _ c.in-Err.refusal _ c.in-Err.ensures.reads.same
 
 pub returns-in-Ok-AlreadyCommitted-clause-history : goal.returns-in-Ok-AlreadyCommitted-clause-history
 returns-in-Ok-AlreadyCommitted-clause-history g c = λ comes.
-    already_says _ _ c.args.limits c.args.transaction.now c.args.now _ c.in-Ok-AlreadyCommitted.field-0 c.in-Ok-AlreadyCommitted.version _ _ (to_z-of_z w64 c.args.now c.ranges.now) c.in-Ok-AlreadyCommitted.ensures.reads.same c.in-Ok-AlreadyCommitted.field-0-is c.in-Ok-AlreadyCommitted.ensures.means
+    already_says _ _ c.args.options.limits c.args.transaction.now c.args.options.now _ c.in-Ok-AlreadyCommitted.field-0 c.in-Ok-AlreadyCommitted.version _ _ refl c.in-Ok-AlreadyCommitted.ensures.reads.same c.in-Ok-AlreadyCommitted.field-0-is c.in-Ok-AlreadyCommitted.ensures.means
 
 pub returns-in-Ok-Writing-clause-lawful : goal.returns-in-Ok-Writing-clause-lawful
 returns-in-Ok-Writing-clause-lawful g c =
-    written_lawful c.args.limits c.args.transaction.now c.args.now _ c.in-Ok-Writing.field-0 c.in-Ok-Writing.writing (to_z-of_z w64 c.args.now c.ranges.now) c.in-Ok-Writing.field-0-is _ _ _
+    written_lawful c.args.options.limits c.args.transaction.now c.args.options.now _ c.in-Ok-Writing.field-0 c.in-Ok-Writing.writing refl c.in-Ok-Writing.field-0-is _ _ _
     c.in-Ok-Writing.ensures.reads.same c.in-Ok-Writing.ensures.means c.in-Ok-Writing.ensures.reads_back c.write.ensures.lawful
 
 pub returns-in-Ok-Writing-clause-history : goal.returns-in-Ok-Writing-clause-history
 returns-in-Ok-Writing-clause-history g c =
-    written_says c.args.limits c.args.transaction.now c.args.now _ c.in-Ok-Writing.field-0 c.in-Ok-Writing.writing (to_z-of_z w64 c.args.now c.ranges.now) c.in-Ok-Writing.field-0-is _ _ _ c.write.result
+    written_says c.args.options.limits c.args.transaction.now c.args.options.now _ c.in-Ok-Writing.field-0 c.in-Ok-Writing.writing refl c.in-Ok-Writing.field-0-is _ _ _ c.write.result
     c.in-Ok-Writing.ensures.reads.same c.in-Ok-Writing.ensures.means c.in-Ok-Writing.ensures.reads_back c.write.ensures.history
 
 pub returns-in-Err-clause-clash : goal.returns-in-Err-clause-clash

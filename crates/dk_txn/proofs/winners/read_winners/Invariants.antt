@@ -10,4 +10,4 @@ invariant-loop-place g l =
     let before = goal.Store-dyn g l.initial.store.now in
     Stays (before.seen l.initial.store.now.1) (now.seen l.store.now.1)
     × (l.place ≤ length l.winners.steps.items)
-    × LeftToRead (before.seen l.initial.store.now.1).told l.limit l.id l.claims l.first l.winners.steps.items l.winners.sizes.items l.initial.state l.place l.state l.conflict
+    × LeftToRead (before.seen l.initial.store.now.1).told l.limit l.own.id.now l.own.claims l.winners.first l.winners.steps.items l.winners.sizes.items l.initial.state l.place l.state l.conflict
