@@ -1,5 +1,6 @@
 #!/usr/bin/env bash
-# The README's two commands name files that exist, and each path that a document names in backquotes is there.
+# The README's two commands name files that exist, each path that a document names in backquotes is there, and so is each source
+# that docs/ARCHITECTURE.md names in the section of a crate.
 set -u
 cd "$(dirname "${BASH_SOURCE[0]}")/.." || exit 1
 status=0
@@ -16,4 +17,9 @@ for document in README.md docs/*.md; do
         [ -e "$path" ] || miss "$document names $path, which isn't there"
     done < <(grep -oE '`(crates|docs|examples|checks|bench)/[A-Za-z0-9_./-]+`' "$document" | tr -d '`' | sort -u)
 done
+
+while read -r crate source; do
+    [ -n "$(find "crates/$crate/src" -path "*/$source")" ] || miss "docs/ARCHITECTURE.md names $source of $crate, which isn't there"
+done < <(awk '/^### / { crate = $2 } /^## / { crate = "" } crate { while (match($0, /`[a-z_]+\.rt`/)) {
+    print crate, substr($0, RSTART + 1, RLENGTH - 2); $0 = substr($0, RSTART + RLENGTH) } }' docs/ARCHITECTURE.md | sort -u)
 exit "$status"
