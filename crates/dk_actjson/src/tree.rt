@@ -19,9 +19,11 @@ pub trait Tree: Copy {
     fn field(self, key: &str) -> Option<Self>
         ensures { option_map meant result ≡ field_of key.now (meant self) };
 
+    /// Whether it is an object.
     fn is_object(self) -> bool
         ensures { result ≡ is_some (as_object (meant self)) };
 
+    /// A text, copied. `Bad` says that it is none, `OutOfMemory` that memory was wanted and not had.
     fn text(self, alloc: Global) -> Result<Text, ActionFault>
         ensures { Gives result (text (meant self)) };
 
@@ -33,6 +35,7 @@ pub trait Tree: Copy {
     fn unsigned(self) -> Option<u64>
         ensures { result ≡ option_and_then as_u64 (as_number (meant self)) };
 
+    /// True or false.
     fn flag(self) -> Option<bool>
         ensures { result ≡ flag (meant self) };
 

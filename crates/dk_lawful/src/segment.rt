@@ -75,12 +75,14 @@ impl Model for StepList {
 }
 
 impl StepList {
+    /// The steps, in ascending order of their versions; nothing is copied.
     pub fn new(list: Vec<Step>) -> StepList
         ensures { result ≡ list.items }
     {
         StepList { list }
     }
 
+    /// The steps, lent.
     pub fn as_slice(&self) -> &[Step]
         ensures { result.now ≡ self.now }
     {

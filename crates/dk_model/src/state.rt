@@ -37,7 +37,7 @@ impl TableState {
     ghost use Rattle.std.specs.Prelude.{◌≡◌, OnOk};
     ghost use Rattle.dk_model.specs.State.{step, steps, empty_state};
 
-    /// The state before all commits.
+    /// The state before all commits (Delta Lake's PROTOCOL.md, "Action Reconciliation"): nothing is set, nothing is live.
     pub fn new(alloc: Global) -> TableState
         ensures { result ≡ empty_state }
     {
@@ -62,8 +62,9 @@ impl TableState {
         Ok(())
     }
 
-    /// Makes the steps of a commit that is given up, in order, and copies none of its texts but the paths of its adds. `Err`
-    /// says that memory was wanted and not had; the state must not be used further then.
+    /// Makes the steps of a commit that is given up, in order (Delta Lake's PROTOCOL.md, "Action Reconciliation"), and copies
+    /// none of its texts but the paths of its adds. `Err` says that memory was wanted and not had; the state must not be used
+    /// further then.
     pub fn absorb(&mut self, alloc: Global, commit: Commit) -> Result<(), AllocError>
         ensures { OnOk result (self.new ≡ steps self.old commit) }
     {
@@ -73,7 +74,8 @@ impl TableState {
         Ok(())
     }
 
-    /// Makes the step of one action. `Err` says that memory was wanted and not had; the state must not be used further then.
+    /// Makes the step of one action (Delta Lake's PROTOCOL.md, "Action Reconciliation"). `Err` says that memory was wanted and
+    /// not had; the state must not be used further then.
     pub fn take(&mut self, alloc: Global, action: Action) -> Result<(), AllocError>
         ensures { OnOk result (self.new ≡ step self.old action) }
     {

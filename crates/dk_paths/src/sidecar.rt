@@ -23,7 +23,8 @@ fn ends_in_parquet(name: &[u8]) -> bool
     name.ends_with(PARQUET)
 }
 
-/// The name of the sidecar of a UUID, `u.parquet`. `Err` says that memory was wanted and not had.
+/// The name of the sidecar of a UUID, `u.parquet` (Delta Lake's PROTOCOL.md, "Sidecar Files"). `Err` says that memory was
+/// wanted and not had.
 pub fn write_sidecar(alloc: Global, id: u128) -> Result<String, AllocError>
     ensures written { IfOk result (λ text. string_bytes text ≡ sidecar_name id) }
     ensures sidecar { is_sidecar_name (sidecar_name id) ≡ true }
@@ -32,7 +33,8 @@ pub fn write_sidecar(alloc: Global, id: u128) -> Result<String, AllocError>
     format!(in alloc; "{id}.parquet")
 }
 
-/// The path of the sidecar of that name, from the table's folder. `Err` says that memory was wanted and not had.
+/// The path of the sidecar of that name, from the table's folder (Delta Lake's PROTOCOL.md, "Sidecar Files"). `Err` says that
+/// memory was wanted and not had.
 pub fn sidecar_path(alloc: Global, name: &str) -> Result<String, AllocError>
     requires { is_sidecar_name name.now ≡ true }
     ensures { IfOk result (λ text. string_bytes text ≡ place_path (Sidecar name.now)) }

@@ -11,7 +11,8 @@ use crate::spelling::{Id, Version};
 use crate::strip::{strip_end, strip_front};
 use std::alloc::{AllocError, Global};
 
-/// The version and the UUID of a staged commit's name, `v.u.json`; `None` for any other name. It takes no memory.
+/// The version and the UUID of a staged commit's name, `v.u.json` (Delta Lake's PROTOCOL.md, "Staged Commits"); `None` for any
+/// other name. It takes no memory.
 pub fn read_staged(name: &str) -> Option<(u64, u128)>
     ensures named { result ≡ staged_of name.now }
     ensures exact { IsStagedNameOf name.now result }
@@ -48,7 +49,8 @@ pub fn write_staged(alloc: Global, version: u64, id: u128) -> Result<String, All
     format!(in alloc; "{version}.{id}.json")
 }
 
-/// The path of a staged commit from the table's folder. `Err` says that memory was wanted and not had.
+/// The path of a staged commit from the table's folder (Delta Lake's PROTOCOL.md, "Staged Commits"). `Err` says that memory was
+/// wanted and not had.
 pub fn staged_path(alloc: Global, version: u64, id: u128) -> Result<String, AllocError>
     requires { version < 2 ^ 63 }
     ensures { IfOk result (λ text. string_bytes text ≡ codes "_delta_log/_staged_commits/" ++ staged_name version id) }

@@ -16,7 +16,8 @@ pub fn write_name(alloc: Global, name: &LogName) -> Result<String, AllocError>
     format!(in alloc; "{name}")
 }
 
-/// The path of a name in the log's folder from the table's folder. `Err` says that memory was wanted and not had.
+/// The path of a name in the log's folder from the table's folder (Delta Lake's PROTOCOL.md, "Delta Log Entries"). `Err` says
+/// that memory was wanted and not had.
 pub fn write_path(alloc: Global, name: &LogName) -> Result<String, AllocError>
     requires { IsName name.now }
     ensures { IfOk result (λ text. string_bytes text ≡ codes "_delta_log/" ++ spelling name.now) }
@@ -24,7 +25,8 @@ pub fn write_path(alloc: Global, name: &LogName) -> Result<String, AllocError>
     format!(in alloc; "_delta_log/{name}")
 }
 
-/// The path of a version's commit from the table's folder. `Err` says that memory was wanted and not had.
+/// The path of a version's commit from the table's folder (Delta Lake's PROTOCOL.md, "Delta Log Entries"). `Err` says that
+/// memory was wanted and not had.
 pub fn commit_path(alloc: Global, version: u64) -> Result<String, AllocError>
     requires { version < 2 ^ 63 }
     ensures { IfOk result (λ text. string_bytes text ≡ commit_path version) }

@@ -10,8 +10,8 @@ use crate::node::{Node, NodeKind};
 /// Most levels of a schema.
 const MOST_LEVELS: u8 = 32;
 
-/// Whether the nodes make a schema: at least one, at least one in each group, no two of one name
-/// beside one another, at most 32 levels.
+/// Whether the nodes make a schema (Apache Parquet, "Nested Types"): at least one, at least one in each group, no two of one
+/// name beside one another, at most 32 levels.
 pub fn is_schema(nodes: &[Node]) -> bool
     ensures { IsTrue result ↔ IsSchema (fields_of nodes.now) }
 {

@@ -29,7 +29,7 @@ impl Schema {
         Schema { nodes }
     }
 
-    /// The schema of these nodes, where they make one.
+    /// The schema of these nodes (Apache Parquet, "Nested Types"), where they make one.
     pub fn try_new(nodes: Vec<Node>) -> Option<Schema>
         ensures made { IsSome result ↔ IsSchema (fields_of nodes.items) }
         ensures same { IfSome result (λ s. fields_in s ≡ fields_of nodes.items) }

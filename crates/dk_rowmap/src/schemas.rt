@@ -163,8 +163,8 @@ pub fn written_schema(alloc: Global) -> Result<Schema, AllocError>
     Ok(Schema::new(nodes))
 }
 
-/// The schema that a checkpoint is read by: the written one, and beside an add's fields the storage type of its deletion vector.
-/// `Err` says that memory was wanted and not had.
+/// The schema that a checkpoint is read by (Delta Lake's PROTOCOL.md, "Checkpoint Schema"): the written one, and beside an
+/// add's fields the storage type of its deletion vector. `Err` says that memory was wanted and not had.
 pub fn read_schema(alloc: Global) -> Result<Schema, AllocError>
     ensures { IfOk result (λ s. fields_in s ≡ read_fields) }
 {

@@ -8,7 +8,7 @@ ghost use Rattle.dk_thrift.specs.Groups.{groups_value, in_64_bits};
 
 use dk_grammar::thrift::Flaw;
 
-/// A varint of at most 64 bits.
+/// A varint of at most 64 bits (Thrift compact protocol, "Integer encoding").
 pub fn number(bytes: &[u8]) -> Result<(u64, &[u8]), Flaw>
     ensures { GivesFront (λ x. (x.0, x.1.now)) result (number_at bytes.now) }
 {

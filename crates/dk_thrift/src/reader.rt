@@ -163,7 +163,8 @@ impl<'a> Reader<'a> {
         }
     }
 
-    /// Passes over the value of a field of this kind, with at most 32 levels of structs and containers. The value of a flag,
+    /// Passes over the value of a field of this kind (Thrift compact protocol, "Struct encoding"), with at most 32 levels of
+    /// structs and containers. The value of a flag,
     /// kind 1 or 2, stands in its header, so there is nothing to pass over. A claimed count costs no time that its bytes don't.
     ///
     /// `Short` comes exactly where the bytes end inside it, `TooDeep` where a struct or container of level 33 would begin, and
@@ -181,7 +182,8 @@ impl<'a> Reader<'a> {
         }
     }
 
-    /// The value of a field of this kind, where it is a whole number of 16, 32 or 64 bits. A value of another kind is passed over,
+    /// The value of a field of this kind, where it is a whole number of 16, 32 or 64 bits (Thrift compact protocol, "Integer
+    /// encoding"). A value of another kind is passed over,
     /// and there is `None`. The faults are those of [`Reader::whole`] and [`Reader::skip`].
     pub fn number(&mut self, kind: u8) -> Result<Option<i64>, ThriftFault>
         ensures { ReadsFront (λ number. number) self.old self.new result (number_meaning (pos 0) kind self.old.rest) }

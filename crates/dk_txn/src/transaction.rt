@@ -199,7 +199,8 @@ impl Transaction {
         Ok(())
     }
 
-    /// The version that a commit would get now, or the one that its own commit has, found by its id; nothing is written.
+    /// The version that a commit would get now, or the one that its own commit has, found by its id (Delta Lake's PROTOCOL.md,
+    /// "Commit Provenance Information"); nothing is written.
     ///
     /// After an Ok of [`Transaction::commit`] it looks as before: it finds the own commit among the winners, or is refused by
     /// `WinnersGone` where a cleanup has taken one of these. The refusals are those of [`Transaction::commit`], but for `Taken`,
