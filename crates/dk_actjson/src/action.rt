@@ -271,7 +271,8 @@ fn read_keyed<T: Tree>(
     Ok(Some(read_under(alloc, key, inner)?))
 }
 
-/// The action of a tree, or none where there is nothing to do, as `action_of` has it of a value.
+/// The action of a tree (Delta Lake's PROTOCOL.md, "Actions"), or none where there is nothing to do, with the faults that
+/// [`action_of`] has for a value.
 pub fn read_action<T: Tree>(alloc: Global, tree: T) -> Result<Option<Action>, ActionFault>
     ensures { Gives result (action_in (T.meant tree)) }
 {
@@ -283,7 +284,8 @@ pub fn read_action<T: Tree>(alloc: Global, tree: T) -> Result<Option<Action>, Ac
 }
 
 /// The action of a value (Delta Lake's PROTOCOL.md, "Actions"), or none where there is nothing to do: it has no known key.
-/// `Bad` where it is no object, has two keys of actions, or a field of another form than that of its action.
+/// `Bad` where it is no object, has two keys of actions, or a field of another form than that of its action; `OutOfMemory`
+/// is want of memory.
 pub fn action_of(alloc: Global, value: &Value) -> Result<Option<Action>, ActionFault>
     ensures { Gives result (action_in (view value.now)) }
 {

@@ -131,6 +131,7 @@ pub fn append_action(alloc: Global, out: &mut Vec<u8>, action: &Action) -> Resul
 }
 
 /// Appends the line of a protocol to what `out` holds ("Protocol Evolution").
+/// `Err` is want of memory.
 pub fn append_protocol(
     alloc: Global,
     out: &mut Vec<u8>,
@@ -141,7 +142,7 @@ pub fn append_protocol(
     append_line(alloc, out, ActionKey::Protocol, protocol)
 }
 
-/// Appends the line of a metaData to what `out` holds ("Change Metadata").
+/// Appends the line of a metaData to what `out` holds ("Change Metadata"). `Err` is want of memory.
 pub fn append_metadata(
     alloc: Global,
     out: &mut Vec<u8>,
@@ -153,6 +154,7 @@ pub fn append_metadata(
 }
 
 /// Appends the line of a file that is added to what `out` holds ("Add File and Remove File").
+/// `Err` is want of memory.
 pub fn append_add(alloc: Global, out: &mut Vec<u8>, file: &AddFile) -> Result<(), AllocError>
     ensures { OnOk result (out.new.items ≡ out.old.items ++ line_of (Action.Add file.now)) }
 {
@@ -160,6 +162,7 @@ pub fn append_add(alloc: Global, out: &mut Vec<u8>, file: &AddFile) -> Result<()
 }
 
 /// Appends the line of a file that is removed to what `out` holds ("Add File and Remove File").
+/// `Err` is want of memory.
 pub fn append_remove(alloc: Global, out: &mut Vec<u8>, file: &RemoveFile) -> Result<(), AllocError>
     ensures { OnOk result (out.new.items ≡ out.old.items ++ line_of (Action.Remove file.now)) }
 {
@@ -167,7 +170,7 @@ pub fn append_remove(alloc: Global, out: &mut Vec<u8>, file: &RemoveFile) -> Res
 }
 
 /// Appends the line of a tombstone to what `out` holds: a file that was removed at that time, in milliseconds since
-/// 1970-01-01T00:00:00Z, which changes no data.
+/// 1970-01-01T00:00:00Z, which changes no data. `Err` is want of memory.
 pub fn append_tombstone(
     alloc: Global,
     out: &mut Vec<u8>,
@@ -186,6 +189,7 @@ pub fn append_tombstone(
 }
 
 /// Appends the line of what an application has recorded last to what `out` holds ("Transaction Identifiers").
+/// `Err` is want of memory.
 pub fn append_application(
     alloc: Global,
     out: &mut Vec<u8>,
@@ -203,6 +207,7 @@ pub fn append_application(
 }
 
 /// Appends the line of a domain that stands, with its configuration, to what `out` holds ("Domain Metadata").
+/// `Err` is want of memory.
 pub fn append_domain(
     alloc: Global,
     out: &mut Vec<u8>,
@@ -221,7 +226,7 @@ pub fn append_domain(
 }
 
 /// Appends the line in which a transaction speaks of its own commit to what `out` holds ("Commit Provenance Information"): its
-/// id, and the moment in milliseconds since 1970-01-01T00:00:00Z.
+/// id, and the moment in milliseconds since 1970-01-01T00:00:00Z. `Err` is want of memory.
 pub fn append_own_info(
     alloc: Global,
     out: &mut Vec<u8>,

@@ -37,7 +37,7 @@ impl<R: Disk> DirStore<R> {
     ghost use Rattle.dk_store.specs.Causes.{Rose};
     ghost use Rattle.dk_dir.specs.Counts.{dir_faults, dir_clashes};
 
-    /// A store over a folder, which it asks for alone. It opens nothing yet.
+    /// A store over a folder, which it asks for alone. It opens nothing yet, and takes no memory.
     pub fn new(rt: R, folder: String) -> Self
         ensures faults { dir_faults result ≡ 0 }
         ensures clashes { dir_clashes result ≡ 0 }

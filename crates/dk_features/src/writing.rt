@@ -83,7 +83,8 @@ fn test_version(alloc: Global, protocol: &Protocol, schema: &str) -> Result<(), 
     }
 }
 
-/// Whether tables of this protocol and metadata are written, as [`can_write`] has it of a state.
+/// Whether tables of this protocol and metadata are written (Delta Lake's PROTOCOL.md, "Writer Requirements"), with the
+/// faults that [`can_write`] has for a state.
 pub fn can_write_with(
     alloc: Global,
     protocol: &Protocol,
@@ -99,7 +100,7 @@ pub fn can_write_with(
 /// where not, the first that is in the way: what is in the way of reading, then a version for writers
 /// above 7, then the first feature that isn't written, of the writers' list for version 7, of those that the versions
 /// stand for below it. A feature `invariants` is in the way where the schema's text has invariants or isn't
-/// JSON. No file is looked at.
+/// JSON. `OutOfMemory` is want of memory. No file is looked at.
 pub fn can_write(alloc: Global, state: &TableState) -> Result<(), FeatureFault>
     requires protocol { IsSome state.now.protocol }
     requires metadata { IsSome state.now.metadata }

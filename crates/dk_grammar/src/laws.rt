@@ -10,7 +10,8 @@ ghost use Rattle.dk_grammar.specs.Thrift.{binary_at, field_at, head, is_id, is_k
 ghost use Rattle.dk_grammar.specs.Varint.{IsVarint, varint_at, varint_bytes};
 ghost use Rattle.dk_grammar.specs.declared.thrift.Field.TheVariants.{End, Next};
 
-/// A varint is read as its number, whatever follows; what is read is a varint; and what is written is one.
+/// A varint (Thrift compact protocol, "Integer encoding") is read as its number, whatever follows; what is read is a varint;
+/// and what is written is one.
 pub fn varints_are_read()
     ensures given { (front rest : List ℕ) (n : ℕ) → IsVarint front n → varint_at (front ++ rest) ≡ Some (n, rest) }
     ensures spelled { (bytes rest : List ℕ) (n : ℕ) → varint_at bytes ≡ Some (n, rest) → Spelled IsVarint bytes n rest }

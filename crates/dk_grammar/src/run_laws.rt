@@ -3,8 +3,8 @@
 ghost use Rattle.std.specs.Prelude.{◌≡◌, ℕ, ◌++◌, List, length};
 ghost use Rattle.dk_grammar.specs.Runs.{AreFirst, EndShort};
 
-/// Bytes hold the first values of runs in at most one way, as many as are wanted, and bytes that end
-/// before so many values hold none.
+/// Bytes hold the first values of runs (Apache Parquet, "Run Length Encoding / Bit-Packing Hybrid") in at most one way, as
+/// many as are wanted, and bytes that end before so many values hold none.
 pub fn runs_have_one_meaning()
     ensures one { (width count : ℕ) (values others front other rest more : List ℕ) → AreFirst width count values front → AreFirst width count others other
         → front ++ rest ≡ other ++ more → (front ≡ other) × (values ≡ others) }

@@ -14,6 +14,7 @@ const GROUP: usize = 8;
 ///
 /// Eight equal values and more are one run, and others are packed in groups of eight. The last group
 /// is padded with zeros, so a reader has to know how many values there are.
+/// `Err` is want of memory.
 pub fn encode(alloc: Global, values: &[u32], width: u8) -> Result<Vec<u8>, AllocError>
     requires narrow { width ≤ 32 }
     requires fit { All (λ value. value < 2 ^ width) values.now }

@@ -37,8 +37,8 @@ pub fn assemble(alloc: Global, schema: &Schema, columns: &Columns) -> Result<Vec
     assemble_nodes(alloc, &schema.nodes, columns.copy(alloc)?)
 }
 
-/// The same for nodes that needn't be a schema, as the part of a file's own schema that is wanted,
-/// and for columns that the caller gives up: their texts are moved into the rows.
+/// The same, with the same faults, for nodes that needn't be a schema, as the part of a file's own schema that is wanted, and
+/// for columns that the caller gives up: their texts are moved into the rows.
 pub fn assemble_nodes(alloc: Global, nodes: &[Node], columns: Columns) -> Result<Vec<Row>, PqFault>
     requires { AreReadable (fields_of nodes.now) }
     ensures found { IfOk result (λ v. AreTriplesOf (fields_of nodes.now) (rows_of v.items) (columns_in columns)) }

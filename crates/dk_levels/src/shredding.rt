@@ -33,6 +33,7 @@ pub fn shred(alloc: Global, schema: &Schema, rows: &[Row]) -> Result<Columns, Al
 /// The triples of the rows as [`shred`] gives them, with the texts of the rows in place of copies.
 ///
 /// Each row has a triple or more in each column, so there is room for as many from the start.
+/// `Err` is want of memory.
 pub fn shred_borrowed<'a>(
     alloc: Global,
     schema: &Schema,

@@ -32,7 +32,7 @@ size_of_found : (name : List ℕ) (found : Option Stored) → option_map (λ (en
 size_of_found name None = refl
 size_of_found name (Some stored) = refl
 
-size_in_folder : (events : List Told) (folder name : List ℕ) → list_any (λ (byte : ℕ). byte == 47) name ≡ false → size_of_name (listing events folder []) name ≡ stored_size events (path_in folder name)
+pub size_in_folder : (events : List Told) (folder name : List ℕ) → list_any (λ (byte : ℕ). byte == 47) name ≡ false → size_of_name (listing events folder []) name ≡ stored_size events (path_in folder name)
 size_in_folder events folder name plain =
     ap (λ (o : Option Listed). option_map (λ (entry : Listed). entry.size) o) (find-listing events folder [] name plain (not_below_empty name))
     ∙ size_of_found name (object events (path_in folder name))

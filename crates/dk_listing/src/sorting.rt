@@ -13,6 +13,7 @@ use std::alloc::{AllocError, Global};
 /// Sorts a listing by what its names mean (Delta Lake's PROTOCOL.md, "File Types", "Catalog-managed tables"). `log` has
 /// the entries of `_delta_log`, `staged` those of `_delta_log/_staged_commits`, where a name of another form is left out,
 /// and `ratified` the ratifications that stand, of versions up to 9,223,372,036,854,775,807. Nothing is copied.
+/// `Err` is want of memory.
 pub fn group(
     alloc: Global,
     log: Vec<Entry>,

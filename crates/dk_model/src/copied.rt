@@ -12,7 +12,7 @@ use crate::text::{Names, Text};
 use std::alloc::{AllocError, Global};
 
 impl Text {
-    /// A text of the same content.
+    /// A text of the same content. `Err` is want of memory.
     pub fn copy(&self, alloc: Global) -> Result<Text, AllocError>
         ensures { IfOk result (λ t. t ≡ self.now) }
     {
@@ -21,7 +21,7 @@ impl Text {
 }
 
 impl Names {
-    /// A list of the same content.
+    /// A list of the same content. `Err` is want of memory.
     pub fn copy(&self, alloc: Global) -> Result<Names, AllocError>
         ensures { IfOk result (λ n. n ≡ self.now) }
     {
@@ -34,7 +34,7 @@ impl Names {
 }
 
 impl Pairs {
-    /// Pairs of the same content.
+    /// Pairs of the same content. `Err` is want of memory.
     pub fn copy(&self, alloc: Global) -> Result<Pairs, AllocError>
         ensures { IfOk result (λ p. p ≡ self.now) }
     {
@@ -77,7 +77,7 @@ fn copied_pairs(alloc: Global, pairs: &Option<Pairs>) -> Result<Option<Pairs>, A
 }
 
 impl Protocol {
-    /// A protocol of the same content.
+    /// A protocol of the same content. `Err` is want of memory.
     pub fn copy(&self, alloc: Global) -> Result<Protocol, AllocError>
         ensures { IfOk result (λ p. p ≡ self.now) }
     {
@@ -91,7 +91,7 @@ impl Protocol {
 }
 
 impl Metadata {
-    /// Metadata of the same content.
+    /// Metadata of the same content. `Err` is want of memory.
     pub fn copy(&self, alloc: Global) -> Result<Metadata, AllocError>
         ensures { IfOk result (λ m. m ≡ self.now) }
     {
@@ -110,7 +110,7 @@ impl Metadata {
 }
 
 impl AddFile {
-    /// A file of the same content.
+    /// A file of the same content. `Err` is want of memory.
     pub fn copy(&self, alloc: Global) -> Result<AddFile, AllocError>
         ensures { IfOk result (λ f. f ≡ self.now) }
     {
@@ -131,7 +131,7 @@ impl AddFile {
 }
 
 impl RemoveFile {
-    /// A removed file of the same content.
+    /// A removed file of the same content. `Err` is want of memory.
     pub fn copy(&self, alloc: Global) -> Result<RemoveFile, AllocError>
         ensures { IfOk result (λ r. r ≡ self.now) }
     {
@@ -144,7 +144,7 @@ impl RemoveFile {
 }
 
 impl Txn {
-    /// An application's version of the same content.
+    /// An application's version of the same content. `Err` is want of memory.
     pub fn copy(&self, alloc: Global) -> Result<Txn, AllocError>
         ensures { IfOk result (λ t. t ≡ self.now) }
     {
@@ -157,7 +157,7 @@ impl Txn {
 }
 
 impl Domain {
-    /// A domain of the same content.
+    /// A domain of the same content. `Err` is want of memory.
     pub fn copy(&self, alloc: Global) -> Result<Domain, AllocError>
         ensures { IfOk result (λ d. d ≡ self.now) }
     {
@@ -181,7 +181,7 @@ impl CheckpointMeta {
 }
 
 impl SidecarRef {
-    /// A sidecar's entry of the same content.
+    /// A sidecar's entry of the same content. `Err` is want of memory.
     pub fn copy(&self, alloc: Global) -> Result<SidecarRef, AllocError>
         ensures { IfOk result (λ r. r ≡ self.now) }
     {
@@ -194,7 +194,7 @@ impl SidecarRef {
 }
 
 impl CommitInfo {
-    /// What is said of a commit, of the same content.
+    /// What is said of a commit, of the same content. `Err` is want of memory.
     pub fn copy(&self, alloc: Global) -> Result<CommitInfo, AllocError>
         ensures { IfOk result (λ i. i ≡ self.now) }
     {
@@ -206,7 +206,7 @@ impl CommitInfo {
 }
 
 impl Action {
-    /// An action of the same content.
+    /// An action of the same content. `Err` is want of memory.
     pub fn copy(&self, alloc: Global) -> Result<Action, AllocError>
         ensures { IfOk result (λ a. a ≡ self.now) }
     {
@@ -226,7 +226,7 @@ impl Action {
 }
 
 impl Commit {
-    /// A commit of the same content.
+    /// A commit of the same content. `Err` is want of memory.
     pub fn copy(&self, alloc: Global) -> Result<Commit, AllocError>
         ensures { IfOk result (λ c. c ≡ self.now) }
     {

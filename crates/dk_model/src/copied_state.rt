@@ -92,7 +92,7 @@ fn copied_metadata(
 }
 
 impl TableState {
-    /// A state of the same content.
+    /// A state of the same content. `Err` is want of memory.
     pub fn copy(&self, alloc: Global) -> Result<TableState, AllocError>
         ensures { IfOk result (λ s. s ≡ self.now) }
     {

@@ -6,28 +6,29 @@ ghost use Rattle.dk_model.specs.ReadBack.{WrittenReadsBack, OwnReadsBack, LinesA
 ghost use Rattle.dk_model.specs.WellKept.{StaysWellKept};
 
 /// Lists of actions whose last protocol, metadata and change of each path are the same lead from every
-/// state to the same state.
+/// state to the same state (Delta Lake's PROTOCOL.md, "Action Reconciliation").
 pub fn last_decides()
     ensures { LastDecides }
 {}
 
-/// What writers of checkpoints need of a state holds of the empty one, and each step keeps it.
+/// What writers of checkpoints need of a state holds of the empty one, and each step keeps it (Delta Lake's
+/// PROTOCOL.md, "Checkpoints").
 pub fn stays_well_kept()
     ensures { StaysWellKept }
 {}
 
-/// The number of a fault is that of the first line that means nothing.
+/// The number of a fault is that of the first line that means nothing, counted from 0.
 pub fn fault_is_first()
     ensures { FaultIsFirst }
 {}
 
-/// A text that is written for actions means those of them that have a line.
+/// A text that is written for actions means those of them that have a line (Delta Lake's PROTOCOL.md, "Actions").
 pub fn written_reads_back()
     ensures { WrittenReadsBack }
 {}
 
-/// Behind the line in which a transaction speaks of its own commit, such a text means that and the
-/// actions.
+/// Behind the line in which a transaction speaks of its own commit (Delta Lake's PROTOCOL.md, "Commit Provenance
+/// Information"), such a text means that and the actions.
 pub fn own_reads_back()
     ensures { OwnReadsBack }
 {}

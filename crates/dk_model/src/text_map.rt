@@ -79,7 +79,7 @@ impl<V> TextMap<V> {
 }
 
 impl<V: Drop> TextMap<V> {
-    /// Sets the value of a key. After an `Err` the map must not be used further.
+    /// Sets the value of a key. `Err` is want of memory, and the map must not be used further after it.
     pub fn insert(&mut self, key: Text, value: V) -> Result<(), AllocError>
         ensures { OnOk result (self.new ≡ map.insert self.old key value) }
     {

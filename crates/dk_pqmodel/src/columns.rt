@@ -32,7 +32,7 @@ pub struct Columns {
 }
 
 impl Columns {
-    /// Columns of the same content.
+    /// Columns of the same content. `Err` is want of memory.
     pub fn copy(&self, alloc: Global) -> Result<Columns, AllocError>
         ensures { IfOk result (λ c. columns_in c ≡ columns_in self.now) }
     {

@@ -26,7 +26,7 @@ pub struct Row {
 }
 
 impl Row {
-    /// A row of the same content.
+    /// A row of the same content. `Err` is want of memory.
     pub fn copy(&self, alloc: Global) -> Result<Row, AllocError>
         ensures { IfOk result (λ r. row_of r ≡ row_of self.now) }
     {

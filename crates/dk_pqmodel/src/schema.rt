@@ -41,7 +41,7 @@ impl Schema {
         }
     }
 
-    /// A schema of the same content.
+    /// A schema of the same content. `Err` is want of memory.
     pub fn copy(&self, alloc: Global) -> Result<Schema, AllocError>
         ensures { IfOk result (λ s. fields_in s ≡ fields_in self.now) }
     {

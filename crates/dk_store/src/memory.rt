@@ -36,7 +36,7 @@ impl MemStore {
     }
 
     /// A store that has taken these events, the oldest first. The version of each ratification is one that a table can
-    /// have.
+    /// have. `Err` is want of memory.
     pub fn from_events(alloc: Global, events: Vec<Event>) -> Result<Self, AllocError>
         requires { IsTrue (list_all (λ e. has_version (told_event e)) events.items) }
         ensures events { IfOk result (λ store. mem_events store ≡ newest_first events.items) }

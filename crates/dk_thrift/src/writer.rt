@@ -51,6 +51,7 @@ impl Writer {
     }
 
     /// Begins an inner struct: the value of a field of kind 12, or an element of that kind. It writes nothing.
+    /// `Err` is want of memory.
     pub fn enter(&mut self) -> Result<(), AllocError>
         requires { IsOpen self.old }
         ensures { OnOk result (self.new ≡ with_struct self.old) }
@@ -63,6 +64,7 @@ impl Writer {
 
     /// A field's header (Thrift compact protocol, "Struct encoding"): one byte where the id is 1 to 15 above the struct's last one,
     /// else the kind and the whole id. Its value follows, but for a flag, whose kind is its value: 1 for true and 2 for false.
+    /// `Err` is want of memory.
     pub fn field(&mut self, id: i16, kind: u8) -> Result<(), AllocError>
         requires in_struct { IsOpen self.old }
         requires kind { IsTrue (is_kind kind) }
@@ -76,6 +78,7 @@ impl Writer {
     }
 
     /// A whole number, as a zigzag varint (Thrift compact protocol, "Integer encoding").
+    /// `Err` is want of memory.
     pub fn whole(&mut self, value: i64) -> Result<(), AllocError>
         requires { IsOpen self.old }
         ensures written { OnOk result (self.new ≡ with_bytes (whole_bytes value) self.old) }
@@ -85,6 +88,7 @@ impl Writer {
     }
 
     /// A text or other bytes: their number, and they (Thrift compact protocol, "Binary encoding").
+    /// `Err` is want of memory.
     pub fn binary(&mut self, bytes: &[u8]) -> Result<(), AllocError>
         requires { IsOpen self.old }
         ensures written { OnOk result (self.new ≡ with_bytes (binary_bytes bytes.now) self.old) }
@@ -96,6 +100,7 @@ impl Writer {
     }
 
     /// The header of a list or a set of so many elements of a kind (Thrift compact protocol, "List and set encoding").
+    /// `Err` is want of memory.
     pub fn list(&mut self, count: u32, kind: u8) -> Result<(), AllocError>
         requires in_struct { IsOpen self.old }
         requires kind { IsTrue (is_kind kind) }
@@ -112,6 +117,7 @@ impl Writer {
     }
 
     /// Ends the current struct by a zero byte, and goes back to the outer one.
+    /// `Err` is want of memory.
     pub fn end(&mut self) -> Result<(), AllocError>
         requires { IsOpen self.old }
         ensures written { OnOk result (self.new ≡ with_end self.old) }
