@@ -1,7 +1,9 @@
 -- Runs as the code keeps them, and what decoding answers.
-use Rattle.std.specs.Prelude.{◌≡◌, ℕ, ◌*◌, ◌^◌, ◌<◌, ◌≤◌, List, ◌++◌, length, take, drop, replicate, count_by, min, ◌-◌, ◌==◌, if◌then◌else◌, Result, Ok, Err, ⊤}
+use Rattle.std.specs.Prelude.{◌≡◌, ℕ, ◌*◌, ◌^◌, ◌<◌, ◌≤◌, List, ◌++◌, length, take, drop, replicate, count_by, min, ◌-◌, ◌==◌, nat_lt, Bool, if◌then◌else◌, Result, Ok, Err, ⊤}
 use Rattle.dk_grammar.specs.Digits.{number_of, digits_of}
 use Rattle.dk_grammar.specs.Runs.{Run as Meant, values_in, bytes_for, IsRun}
+use Rattle.dk_hybrid.specs.declared.counting.Test.{Test}
+use Rattle.dk_hybrid.specs.declared.counting.Test.TheVariants.{Equal, Below}
 use Rattle.dk_hybrid.specs.declared.run.Run.{Run}
 use Rattle.dk_hybrid.specs.declared.run.Run.TheVariants.{Repeated, Packed}
 use Rattle.dk_hybrid.specs.declared.fault.HybridFault.{HybridFault}
@@ -46,9 +48,14 @@ GivesValues view (Err Width) meant = ⊥
 GivesValues view (Err Short) meant = ⊥
 GivesValues view (Err OutOfMemory) meant = ⊤
 
--- so many of the values are equal to the wanted one, and these are so many, no more than asked for
-pub record Counts (wanted most : ℕ) (values : List ℕ) (equal passed : ℕ) : Type 0 where
-  pub found : equal ≡ count_by (λ value. value == wanted) values
-  pub all : passed ≡ length values
-  pub few : equal ≤ passed
-  pub within : passed ≤ most
+-- the values that are counted
+abbrev pub passes : Test → ℕ → Bool
+passes (Equal wanted) value = value == wanted
+passes (Below bound) value = nat_lt value bound
+
+-- so many of the values pass the test, and these are so many, no more than asked for
+pub record Counts (test : Test) (most : ℕ) (values : List ℕ) (passing seen : ℕ) : Type 0 where
+  pub found : passing ≡ count_by (λ value. passes test value) values
+  pub all : seen ≡ length values
+  pub few : passing ≤ seen
+  pub within : seen ≤ most

@@ -11,7 +11,7 @@ mod packing;
 mod run;
 mod unpacking;
 
-pub use counting::count_equal;
+pub use counting::{count_below, count_equal};
 pub use decoding::decode;
 pub use encoding::encode;
 pub use fault::HybridFault;
