@@ -212,9 +212,18 @@ def fields(kind, optional=True):
     return [["a", optional, kind]]
 
 
-LISTS = [element("root", children=1), element("l", 1, children=1), element("list", 2, children=1), element("element", 1, "chars")]
+def lists_of(kind, repetition=1):
+    return [element("root", children=1), element("l", 1, children=1), element("list", 2, children=1), element("element", repetition, kind)]
+
+
+LISTS = lists_of("chars")
 LIST_FIELDS = [["l", True, ["list", ["", True, "chars"]]]]
 LIST_PATH = ["l", "list", "element"]
+MAPS = [element("root", children=1), element("m", 1, children=1), element("key_value", 2, children=2), element("key", 0, "chars"),
+        element("value", 1, "chars")]
+MAP_FIELDS = [["m", True, ["map", ["", True, "chars"]]]]
+KEY_PATH = ["m", "key_value", "key"]
+VALUE_PATH = ["m", "key_value", "value"]
 
 CASES = []
 
@@ -354,6 +363,61 @@ def lying_counts():
     case("two groups with one page", file_of(flat("chars"), [(1, [same]), (1, [Chunk(["a"], "chars", 1, [], first=4)])]), fields("chars"), [["x"], ["x"]])
 
 
+def one_row(count):
+    """The repetition levels of one row whose list has so many elements, in runs."""
+    return repeated(1, 0, 1) + (repeated(count - 1, 1, 1) if count > 1 else b"")
+
+
+def row_page(count, definition, values, encoding=0):
+    """One row whose list has so many elements, all with one definition level."""
+    return data_page(count, sized(one_row(count)) + sized(repeated(count, definition, 2)) + values, encoding)
+
+
+def row_case(name, kind, count, pages, row=None, optional=True, coded=False):
+    """A list of one row in a group of one row."""
+    data = file_of(lists_of(kind, 1 if optional else 0), [(1, [Chunk(LIST_PATH, kind, count, pages, coded)])])
+    case(name, data, [["l", True, ["list", ["", optional, kind]]]], None if row is None else [[["list"] + row]])
+
+
+def claimed_levels():
+    """Levels above their greatest, in columns that repeat."""
+    many = 2**24
+    page = data_page(many, sized(repeated(1, 0, 1) + repeated(many - 1, 2, 1)) + sized(repeated(many, 2, 2)))
+    row_case("2^24 repetition levels above their greatest in one run", "chars", many, [page])
+    row_case("2^24 definition levels above their greatest in one run", "chars", many, [row_page(many, 4, b"")])
+    page = data_page_v2(many, 1, 0, one_row(many), repeated(many, 255, 2), b"")
+    row_case("2^24 definition levels above their greatest in one run, in a page of the second version", "chars", many, [page])
+    page = data_page(3, sized(one_row(3)) + sized(packed([1, 2, 3], 2)) + plains([7], "int32"))
+    row_case("a packed definition level above its greatest", "int32", 3, [page], optional=False)
+    page = data_page(2, sized(one_row(2)) + sized(packed([2, 2, 3, 3], 2)) + plains([7, 8], "int32"))
+    row_case("a level above its greatest in the padding", "int32", 2, [page], [7, 8], optional=False)
+    page = data_page(4, sized(repeated(1, 0, 1) + repeated(2**40, 1, 1)) + sized(repeated(2**40, 2, 2)))
+    row_case("runs of more levels than the page has", "chars", 4, [page], [None] * 4)
+    pages = [list_page([0, 1], [3, 2], ["x"]), data_page(2, sized(repeated(2, 1, 1)) + sized(repeated(2, 4, 2)))]
+    row_case("definition levels above their greatest in the second page", "chars", 4, pages)
+
+
+def claimed_values():
+    """Plain values for which the bytes have no room, in columns that repeat."""
+    many = 2**24
+    for kind, size, values in (("flag", 8, [True] * 9), ("int32", 4, [1, -2, 3]), ("int64", 8, [2**40, -2]), ("chars", 4, ["", "", ""])):
+        row_case("2^24 elements in one run, and no value of the kind " + kind, kind, many, [row_page(many, 3, b"")])
+        stored = plains(values, kind)
+        row_case("elements that take all bytes, of the kind " + kind, kind, len(values), [row_page(len(values), 3, stored)], values)
+        row_case("elements for which a byte is missing, of the kind " + kind, kind, len(values), [row_page(len(values), 3, stored[:-1])])
+    keys = Chunk(KEY_PATH, "chars", many, [row_page(many, 2, b"")])
+    nulls = Chunk(VALUE_PATH, "chars", many, [row_page(many, 2, b"")])
+    case("2^24 keys of a map in one run, and no text", file_of(MAPS, [(1, [keys, nulls])]), MAP_FIELDS)
+    keys = Chunk(KEY_PATH, "chars", 2, [row_page(2, 2, plains(["a", "b"], "chars"))])
+    nulls = Chunk(VALUE_PATH, "chars", 2, [row_page(2, 2, b"")])
+    case("keys of a map whose values are null", file_of(MAPS, [(1, [keys, nulls])]), MAP_FIELDS, [[["list", ["group", "a", None], ["group", "b", None]]]])
+    page = data_page_v2(many, 1, 0, one_row(many), repeated(many, 3, 2), plains([1], "int64"))
+    row_case("2^24 numbers of which one is there, in a page of the second version", "int64", many, [page])
+    row_case("100 flags in one run, which take fewer bits", "flag", 100, [row_page(100, 3, sized(repeated(100, 1, 1)), 3)], [True] * 100)
+    pages = [dictionary_page(["x"], "chars"), row_page(100, 3, bytes([0]) + repeated(100, 0, 0), 8)]
+    row_case("100 places of one text, which take no bits", "chars", 100, pages, ["x"] * 100, coded=True)
+
+
 def list_page(reps, definitions, texts):
     return data_page(len(reps), sized(levels(reps, 1)) + sized(levels(definitions, 3)) + plains(texts, "chars"))
 
@@ -397,6 +461,8 @@ def main():
     empty_lists()
     second_version()
     lying_counts()
+    claimed_levels()
+    claimed_values()
     own_files()
     return finish(PLACE, CASES)
 

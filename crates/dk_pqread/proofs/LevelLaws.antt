@@ -5,7 +5,7 @@ use Rattle.std.proofs.Math.Nat.{pow-suc}
 use Rattle.dk_grammar.specs.Runs.{AreFirst}
 use Rattle.dk_grammar.proofs.Runs.{first_again, first_length}
 use Rattle.dk_pqmodel.specs.FilePages.{HoldLevels, IsWidth}
-use Rattle.dk_pqread.specs.Meanings.{HoldRuns}
+use Rattle.dk_pqread.specs.Meanings.{AreLevelsOf, HoldRuns}
 
 narrower : (greatest v w : ℕ) → IsWidth greatest v → IsWidth greatest w → v < w → ⊥
 narrower greatest v w first second less =
@@ -31,13 +31,10 @@ levels_runs greatest width count bytes levels some is len (inr h) =
       first = subst (λ n. AreFirst width n levels h.1.runs) len (subst (λ w. AreFirst w (length levels) levels h.1.runs) same h.1.first);
     }
 
-pub runs_levels : (greatest width count : ℕ) (bytes levels : List ℕ) → 0 < greatest → IsWidth greatest width → HoldRuns width count bytes levels → (length levels ≡ count) × HoldLevels greatest levels bytes
+pub runs_levels : (greatest width count : ℕ) (bytes levels : List ℕ) → 0 < greatest → IsWidth greatest width → HoldRuns width count bytes levels → AreLevelsOf greatest count bytes levels
 runs_levels greatest width count bytes levels some is held =
     let len : length levels ≡ count = first_length width count levels held.runs held.first in
     (len, inr (some, record { width = width; digits = is; runs = held.runs; over = held.over; whole = held.whole; first = subst (λ n. AreFirst width n levels held.runs) (sym len) held.first }))
-
-abbrev pub AreLevelsOf : ℕ → ℕ → List ℕ → List ℕ → Type 0
-AreLevelsOf greatest count bytes levels = (length levels ≡ count) × HoldLevels greatest levels bytes
 
 pub levels_once : (greatest : ℕ) (bytes a b : List ℕ) → length a ≡ length b → HoldLevels greatest a bytes → HoldLevels greatest b bytes → a ≡ b
 levels_once greatest bytes a b len (inl first) (inl second) = first.1 ∙ ap (λ n. replicate n 0) len ∙ sym second.1

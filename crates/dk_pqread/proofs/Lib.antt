@@ -29,6 +29,7 @@ pub mod PageTriples
 pub mod PartLaws
 pub mod PlainLaws
 pub mod PlainSteps
+pub mod Rooms
 pub mod RowStarts
 pub mod RunReading
 pub mod Scanning

@@ -9,10 +9,10 @@ use Rattle.dk_pqmodel.specs.declared.fault.PqFault.{PqFault}
 use Rattle.dk_pqmodel.specs.Pages.{Page}
 use Rattle.dk_pages.specs.Split.{Parts}
 use Rattle.dk_levels.specs.Answers.{GivesMeant}
-use Rattle.dk_pqread.specs.Meanings.{RefusesMeaning, Finds, full_count, zipped, triples_then}
+use Rattle.dk_pqread.specs.Meanings.{AreLevelsOf, RefusesMeaning, Finds, full_count, zipped, triples_then}
 use Rattle.dk_pqread.specs.PageMeaning.{PageHolds, PartsHold, AddsTriples}
 use Rattle.dk_pqread.proofs.Finding.{refuses_by, finds_given}
-use Rattle.dk_pqread.proofs.LevelLaws.{AreLevelsOf, levels_once}
+use Rattle.dk_pqread.proofs.LevelLaws.{levels_once}
 use Rattle.dk_pqread.proofs.PartLaws.{none_is_not_some, some_is}
 use Rattle.dk_pqread.proofs.ValueLaws.{values_once}
 use Rattle.dk_pqread.proofs.ValueReading.{AreValuesOf}

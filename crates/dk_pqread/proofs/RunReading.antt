@@ -4,9 +4,9 @@ use Rattle.std.proofs.lemmas.List.{take-append-drop}
 use Rattle.dk_grammar.specs.Runs.{AreFirst}
 use Rattle.dk_pqmodel.specs.FilePages.{IsWidth}
 use Rattle.dk_pqmodel.specs.declared.fault.PqFault.{PqFault}
-use Rattle.dk_pqread.specs.Meanings.{HoldRuns, RefusesMeaning}
+use Rattle.dk_pqread.specs.Meanings.{AreLevelsOf, HoldRuns, RefusesMeaning}
 use Rattle.dk_pqread.proofs.Finding.{refuses_by}
-use Rattle.dk_pqread.proofs.LevelLaws.{AreLevelsOf, levels_runs, runs_levels}
+use Rattle.dk_pqread.proofs.LevelLaws.{levels_runs, runs_levels}
 
 pub runs_found : (width count used : ℕ) (bytes values : List ℕ) → AreFirst width count values (take used bytes) → HoldRuns width count bytes values
 runs_found width count used bytes values first = record { runs = take used bytes; over = drop used bytes; whole = sym (take-append-drop used bytes); first = first }

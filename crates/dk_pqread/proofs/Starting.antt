@@ -1,15 +1,13 @@
 -- Rows that begin are counted rightly, page by page, and a file that means rows has as many as its groups say.
-use Rattle.std.proofs.Common.{◌≡◌, ℕ, zero, suc, ◌+◌, ◌-◌, ◌<◌, ◌≤◌, ◌==◌, ◌⊎◌, inl, inr, Bool, true, false, cond, IsTrue, Option, Some, None, Result, Ok, Err, get_or, List, [], ◌∷◌, ◌++◌, length, map, refl, sym, ap, subst, ◌∙◌, arith}
-use Rattle.std.specs.List.{All, AllByRecursion, count_by}
-use Rattle.std.proofs.lemmas.Bool.{eq-eqb, ne_eqb}
+use Rattle.std.proofs.Common.{◌≡◌, ℕ, zero, suc, ◌+◌, ◌-◌, ◌<◌, ◌≤◌, ◌==◌, inl, inr, true, false, cond, Some, None, Result, Ok, Err, get_or, List, [], ◌∷◌, length, map, refl, sym, ap, subst, ◌∙◌, arith}
+use Rattle.std.specs.List.{count_by}
+use Rattle.std.proofs.lemmas.Bool.{ne_eqb}
 use Rattle.std.proofs.lemmas.List.{length-map}
 use Rattle.std.proofs.lemmas.List.Sums.{sum_by-append}
-use Rattle.std.proofs.lemmas.List.Elements.{recursion_from_All}
 use Rattle.dk_pages.specs.Split.{Parts, split_of}
-use Rattle.dk_pages.specs.Spelled.{IsPageAt}
 use Rattle.dk_pages.proofs.PageSpellings.{page_only}
-use Rattle.dk_pqmodel.specs.Datum.{Value, Triple, Cells, Column}
-use Rattle.dk_pqmodel.specs.FileMeans.{HasTriples, HasColumn, HasColumns, HasRows, HaveRows, columns_of}
+use Rattle.dk_pqmodel.specs.Datum.{Triple, Cells, Column}
+use Rattle.dk_pqmodel.specs.FileMeans.{HasTriples, HasColumns, HasRows, HaveRows, columns_of}
 use Rattle.dk_pqmodel.specs.FilePages.{ColumnAt, HoldLevels}
 use Rattle.dk_pqmodel.specs.Footer.{Chunk, RowGroup}
 use Rattle.dk_pqmodel.specs.Pages.{Page, page_at}
@@ -22,7 +20,7 @@ use Rattle.dk_pqmeta.specs.declared.footer.RowGroup as group_code
 use Rattle.dk_pqread.specs.ColumnView.{column_at}
 use Rattle.dk_pqread.specs.RowsMeaning.{GroupsMean}
 use Rattle.dk_pqread.specs.declared.column.Column as code
-use Rattle.dk_pqread.specs.Meanings.{RefusesMeaning, Tells}
+use Rattle.dk_pqread.specs.Meanings.{AreLevelsOf, RefusesMeaning, Tells}
 use Rattle.dk_pqread.specs.PageMeaning.{PageHolds}
 use Rattle.dk_pqread.specs.Starts.{zero_at, starts, Each, OnPage, OnPages, BeginsRows, BeginRows, AllBeginRows}
 use Rattle.dk_pqread.proofs.ChunkPages.{ReadAs, data_first, chunk_means, same_first, behind_dictionary}
@@ -60,9 +58,9 @@ no_starts (e ∷ es) h = absurd (omega (arith, h))
 
 -- the repetition levels of a page's triples stand in its first part
 pub page_levels : (column : ColumnAt) (page : Page) (parts : Parts) (count : ℕ) → count ≡ page.values → split_of column.rep column.def page ≡ Some parts → (result : Result ℕ PqFault)
-    → Tells (count_by (λ level. level == 0)) result (λ levels. (length levels ≡ count) × HoldLevels column.rep levels parts.rep) → Tells starts result (OnPage column page)
+    → Tells (count_by (λ level. level == 0)) result (AreLevelsOf column.rep count parts.rep) → Tells starts result (OnPage column page)
 page_levels column page parts count is split result h =
-    tells_by (count_by (λ level. level == 0)) starts result (λ levels. (length levels ≡ count) × HoldLevels column.rep levels parts.rep) (OnPage column page)
+    tells_by (count_by (λ level. level == 0)) starts result (AreLevelsOf column.rep count parts.rep) (OnPage column page)
     (λ triples on. (
     let holds = on.1 in
     let same : holds.parts ≡ parts = some_is holds.parts parts (sym holds.split ∙ split) in

@@ -11,6 +11,7 @@ pub mod LeafView
 pub mod Meanings
 pub mod PageMeaning
 pub mod PlanView
+pub mod Room
 pub mod RowsMeaning
 pub mod Starts
 pub mod Values

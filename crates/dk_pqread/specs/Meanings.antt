@@ -1,8 +1,11 @@
 -- What parts of a page, pages and chunks mean, and what functions that read them answer.
-use Rattle.std.specs.Prelude.{◌≡◌, ◌==◌, ℕ, nat_le, ⊤, if◌then◌else◌, ◌&&◌, Option, Some, None, option_map, option_and_then, Result, Ok, Err, List, [], ◌∷◌, ◌++◌, replicate, count_by, Vec}
+use Rattle.std.specs.Prelude.{◌≡◌, ◌==◌, ℕ, nat_le, ⊤, if◌then◌else◌, ◌&&◌, Option, Some, None, option_map, option_and_then, Result, Ok, Err, List, [], ◌∷◌, ◌++◌, length, replicate, count_by, Vec}
 use Rattle.std.specs.declared.alloc.Global.{Global}
 use Rattle.dk_grammar.specs.Runs.{AreFirst}
+use Rattle.dk_hybrid.specs.declared.fault.HybridFault.{HybridFault}
+use Rattle.dk_hybrid.specs.declared.fault.HybridFault.TheVariants as hybrid
 use Rattle.dk_pqmodel.specs.Datum.{Value, Triple, Column}
+use Rattle.dk_pqmodel.specs.FilePages.{HoldLevels}
 use Rattle.dk_pqmodel.specs.declared.fault.PqFault.{PqFault}
 use Rattle.dk_pqmodel.specs.declared.fault.PqFault.TheVariants.{Broken, OutOfMemory}
 
@@ -22,6 +25,12 @@ abbrev pub Tells : {Y : Type 0} → (Y → ℕ) → Result ℕ PqFault → (Y �
 Tells {Y} number (Ok n) Means = (y : Y) → Means y → number y ≡ n
 Tells number (Err fault) Means = RefusesMeaning fault Means
 
+-- what a fault of runs is
+abbrev pub fault_of : HybridFault → PqFault
+fault_of hybrid.Width = Broken
+fault_of hybrid.Short = Broken
+fault_of hybrid.OutOfMemory = OutOfMemory
+
 -- bytes begin with runs of so many numbers
 pub record HoldRuns (width count : ℕ) (bytes numbers : List ℕ) : Type 0 where
   pub runs : List ℕ
@@ -30,6 +39,10 @@ pub record HoldRuns (width count : ℕ) (bytes numbers : List ℕ) : Type 0 wher
   pub first : AreFirst width count numbers runs
 
 -- ---- levels
+
+-- so many levels stand in the bytes
+abbrev pub AreLevelsOf : ℕ → ℕ → List ℕ → List ℕ → Type 0
+AreLevelsOf greatest count bytes levels = (length levels ≡ count) × HoldLevels greatest levels bytes
 
 -- levels of a page, all 0 where none are kept
 abbrev pub levels_on_page : ℕ → Option (Vec ℕ Global) → List ℕ

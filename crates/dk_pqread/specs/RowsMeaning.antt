@@ -1,6 +1,5 @@
 -- What the wanted rows of row groups are.
 use Rattle.std.specs.Prelude.{◌≡◌, ℕ, zero, suc, Some, List}
-use Rattle.dk_pqmodel.specs.Shape.{Fields}
 use Rattle.dk_pqmodel.specs.Datum.{group, Cells, no_cells, one_cell, appended}
 use Rattle.dk_pqmodel.specs.Footer.{RowGroup}
 use Rattle.dk_pqmodel.specs.FileMeans.{HasRows, HaveRows, all_rows}

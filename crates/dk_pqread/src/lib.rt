@@ -18,6 +18,7 @@ mod page;
 mod plain;
 mod plan;
 mod read;
+mod room;
 mod rows;
 mod runs;
 mod scan;

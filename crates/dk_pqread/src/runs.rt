@@ -1,10 +1,11 @@
 //! Numbers in runs: levels, flags, places in a dictionary.
 
-ghost use Rattle.std.specs.Prelude.{◌≡◌, ◌<◌, ◌≤◌, ◌==◌, IfOk, count_by, length};
-ghost use Rattle.dk_pqmodel.specs.FilePages.{HoldLevels, IsWidth};
-ghost use Rattle.dk_pqread.specs.Meanings.{Finds, Tells, HoldRuns, full_count, levels_on_page};
+ghost use Rattle.std.specs.Prelude.{◌≡◌, ◌≤◌, ◌==◌, IfOk, count_by};
+ghost use Rattle.dk_pqmodel.specs.FilePages.{IsWidth};
+ghost use Rattle.dk_pqread.specs.Meanings.{AreLevelsOf, Finds, Tells, HoldRuns, fault_of, full_count, levels_on_page};
+ghost use Rattle.dk_pqread.specs.Room.{AreWithin, Sieves};
 
-use dk_hybrid::{HybridFault, count_equal, decode};
+use dk_hybrid::{HybridFault, count_below, count_equal, decode};
 use dk_pqmodel::PqFault;
 use std::alloc::Global;
 
@@ -20,9 +21,17 @@ pub(crate) fn read_runs(
 {
     match decode(alloc, bytes, width, count) {
         Ok((numbers, _used)) => Ok(numbers),
-        Err(HybridFault::OutOfMemory) => Err(PqFault::OutOfMemory),
-        Err(HybridFault::Width) => Err(PqFault::Broken),
-        Err(HybridFault::Short) => Err(PqFault::Broken),
+        Err(fault) => Err(fault_of(fault)),
+    }
+}
+
+fn fault_of(fault: HybridFault) -> PqFault
+    ensures { result ≡ fault_of fault }
+{
+    match fault {
+        HybridFault::OutOfMemory => PqFault::OutOfMemory,
+        HybridFault::Width => PqFault::Broken,
+        HybridFault::Short => PqFault::Broken,
     }
 }
 
@@ -33,7 +42,7 @@ pub(crate) fn read_levels(
     bytes: &[u8],
     count: usize,
 ) -> Result<Option<Vec<u32>>, PqFault>
-    ensures { Finds (levels_on_page count) result (λ levels. (length levels ≡ count) × HoldLevels greatest levels bytes.now) }
+    ensures { Finds (levels_on_page count) result (AreLevelsOf greatest count bytes.now) }
 {
     if greatest == 0 {
         return Ok(None);
@@ -41,22 +50,47 @@ pub(crate) fn read_levels(
     Ok(Some(read_runs(alloc, bytes, width(greatest), count)?))
 }
 
-/// How many of so many levels up to the greatest are 0. Copies in runs are counted at once, and no level is kept.
-pub(crate) fn count_zeros(
+/// How many of so many levels up to the greatest are `wanted`. Copies in runs are counted at once, and no level is kept.
+pub(crate) fn count_levels(
     alloc: Global,
     greatest: u8,
     bytes: &[u8],
     count: usize,
+    wanted: u8,
 ) -> Result<usize, PqFault>
-    requires { 0 < greatest }
-    ensures zeros { Tells (count_by (λ level. level == 0)) result (λ levels. (length levels ≡ count) × HoldLevels greatest levels bytes.now) }
+    requires { wanted ≤ greatest }
+    ensures counted { Tells (count_by (λ level. level == wanted)) result (AreLevelsOf greatest count bytes.now) }
     ensures few { IfOk result (λ n. n ≤ count) }
 {
-    match count_equal(alloc, bytes, width(greatest), count, 0) {
-        Ok(zeros) => Ok(zeros),
-        Err(HybridFault::OutOfMemory) => Err(PqFault::OutOfMemory),
-        Err(HybridFault::Width) => Err(PqFault::Broken),
-        Err(HybridFault::Short) => Err(PqFault::Broken),
+    if greatest == 0 {
+        return Ok(count);
+    }
+    match count_equal(alloc, bytes, width(greatest), count, u32::from(wanted)) {
+        Ok(levels) => Ok(levels),
+        Err(fault) => Err(fault_of(fault)),
+    }
+}
+
+/// Refuses so many levels of which one is above the greatest. Copies in runs are counted at once, and no level is kept.
+pub(crate) fn levels_fit(
+    alloc: Global,
+    greatest: u8,
+    bytes: &[u8],
+    count: usize,
+) -> Result<(), PqFault>
+    ensures { Sieves result (AreLevelsOf greatest count bytes.now) (AreWithin greatest) }
+{
+    if greatest == 0 {
+        return Ok(());
+    }
+    let bound = u32::from(greatest) + 1;
+    match count_below(alloc, bytes, width(greatest), count, bound) {
+        Ok(below) => if below == count {
+            Ok(())
+        } else {
+            Err(PqFault::Broken)
+        },
+        Err(fault) => Err(fault_of(fault)),
     }
 }
 

@@ -1,4 +1,4 @@
-//! How many rows begin in the chunks, counted before anything of them is kept.
+//! How many rows begin in the chunks, counted before anything of them is kept, and whether their levels and values can be.
 
 ghost use Rattle.std.specs.Prelude.{◌<◌, ◌≤◌, [], IsTrue, All, IfErr, IfOk, map};
 ghost use Rattle.dk_pages.specs.Pages.{page_of};
@@ -7,19 +7,21 @@ ghost use Rattle.dk_pqmodel.specs.FileMeans.{HasTriples};
 ghost use Rattle.dk_pqmodel.specs.Footer.{is_new_each};
 ghost use Rattle.dk_pqread.specs.ColumnView.{column_at};
 ghost use Rattle.dk_pqread.specs.Meanings.{RefusesMeaning, Tells};
+ghost use Rattle.dk_pqread.specs.Room.{PageFits};
 ghost use Rattle.dk_pqread.specs.Starts.{AllBeginRows, BeginRows, BeginsRows, OnPage, OnPages, starts};
 
 use crate::column::Column;
 use crate::dictionary::is_dictionary;
-use crate::runs::count_zeros;
+use crate::room::parts_fit;
+use crate::runs::count_levels;
 use crate::scan::{chunk_of, first_place};
 use dk_pages::{PageView, next_page};
 use dk_pqmeta::{Chunk, RowGroup};
 use dk_pqmodel::PqFault;
 use std::alloc::Global;
 
-/// Refuses groups in one of whose repeated columns another number of rows begins than the group has. `before` is the file up to its
-/// footer. A run of levels is counted at once, however many it claims.
+/// Refuses groups in one of whose repeated columns another number of rows begins than the group has, a level is above its greatest, or
+/// plain values have no room. `before` is the file up to its footer. A run of levels is counted at once, however many it claims.
 pub(crate) fn rows_begin(
     alloc: Global,
     before: &[u8],
@@ -82,7 +84,6 @@ fn chunk_begins(
     column: &Column,
     chunk: &Chunk,
 ) -> Result<u64, PqFault>
-    requires { 0 < column.now.rep }
     ensures { Tells starts result (HasTriples before.now (column_at column.now) (chunk_view chunk.now)) }
 {
     if chunk.values == 0 {
@@ -107,7 +108,6 @@ fn pages_begin(
     start: usize,
     count: u64,
 ) -> Result<u64, PqFault>
-    requires { 0 < column.now.rep }
     ensures { Tells starts result (OnPages before.now (column_at column.now) start count) }
 {
     let mut begun = 0;
@@ -129,16 +129,18 @@ fn pages_begin(
     Ok(begun)
 }
 
-/// How many rows begin in a data page.
+/// How many rows begin in a data page whose levels are at most their greatest and whose plain values have room.
 fn page_begins(alloc: Global, column: &Column, page: &PageView<'_>) -> Result<u64, PqFault>
-    requires { 0 < column.now.rep }
     ensures begun { Tells starts result (OnPage (column_at column.now) (page_of page.now)) }
     ensures few { IfOk result (λ n. n ≤ page.now.values) }
+    ensures fit { IfOk result (λ _. PageFits (column_at column.now) (page_of page.now)) }
 {
     let parts = match page.split(column.rep, column.def) {
         Ok(parts) => parts,
         Err(_) => return Err(PqFault::Broken),
     };
-    let zeros = count_zeros(alloc, column.rep, parts.rep, page.values as usize)?;
+    let count = page.values as usize;
+    parts_fit(alloc, column, page.encoding, &parts, count)?;
+    let zeros = count_levels(alloc, column.rep, parts.rep, count, 0)?;
     Ok(zeros as u64)
 }

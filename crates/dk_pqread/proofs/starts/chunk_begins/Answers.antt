@@ -1,11 +1,10 @@
-use Rattle.std.proofs.Common.{Ok, arith, sym, ap, subst, ◌∙◌, ◌≡◌}
+use Rattle.std.proofs.Common.{arith, sym, subst, ◌∙◌, ◌≡◌}
 use Rattle.dk_pages.specs.Pages.{page_of}
 use Rattle.dk_pqmeta.specs.View.{chunk_view}
 use Rattle.dk_pqread.specs.ColumnView.{column_at}
 use Rattle.dk_pqread.specs.Meanings.{Tells}
 use Rattle.dk_pqread.specs.Starts.{OnPages, starts}
 use Rattle.dk_pqmodel.specs.Pages.{page_at}
-use Rattle.dk_pqmodel.specs.Scans.{first_place}
 use Rattle.std.proofs.Common.{Some, None}
 use Rattle.dk_pqread.proofs.ChunkPages.{no_first_page}
 use Rattle.dk_pqread.proofs.Starting.{behind_entries, without_entries}

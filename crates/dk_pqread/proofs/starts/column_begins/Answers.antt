@@ -1,4 +1,4 @@
-use Rattle.std.proofs.Common.{Ok, sym}
+use Rattle.std.proofs.Common.{sym}
 use Rattle.std.proofs.lemmas.Result.{err_from_is_err_and}
 use Rattle.dk_pqmeta.specs.View.{chunk_view, group_view}
 use Rattle.dk_pqread.specs.ColumnView.{column_at}

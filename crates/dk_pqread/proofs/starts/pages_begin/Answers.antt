@@ -1,4 +1,4 @@
-use Rattle.std.proofs.Common.{◌-◌, Ok, arith}
+use Rattle.std.proofs.Common.{◌-◌, arith}
 use Rattle.std.proofs.lemmas.Result.{err_from_is_err_and}
 use Rattle.dk_pages.specs.Pages.{page_of}
 use Rattle.dk_pqread.specs.ColumnView.{column_at}
