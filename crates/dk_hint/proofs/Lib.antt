@@ -1,3 +1,5 @@
 mod Adding
+mod InRange
 mod SortedKeys
 mod TextOrNot
+mod WrittenBack

@@ -1,4 +1,5 @@
 pub mod Canonical
 pub mod Spelled
+pub mod Written
 pub mod Sorted
 pub mod Example

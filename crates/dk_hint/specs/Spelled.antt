@@ -50,7 +50,7 @@ abbrev mutual
   members_are_whole (member k d ms) = is_whole_throughout d && members_are_whole ms
 
 -- 32 lower-case hexadecimal digits
-abbrev pub checksum_of : Members → List ℕ
+unfoldable pub checksum_of : Members → List ℕ
 checksum_of members = encode_lower (md5 (canonical_text members))
 
 abbrev pub is_checksum : Members → Option (List ℕ) → Bool

@@ -73,6 +73,7 @@ fn add_top_pairs(
 }
 
 /// The checksum that the object should have.
+#[tactic(auto, unfolding(crate::specs::Spelled::checksum_of))]
 pub fn checksum(alloc: Global, members: &Map<String, Value>) -> Result<String, AllocError>
     ensures { IfOk result (λ sum. string_bytes sum ≡ checksum_of (members_view members.now.entries)) }
 {

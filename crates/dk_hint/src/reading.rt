@@ -1,8 +1,9 @@
 //! The bytes of a hint.
 
-ghost use Rattle.std.specs.Prelude.{◌≡◌, IfOk};
+ghost use Rattle.std.specs.Prelude.{◌≡◌, IfOk, IfSome};
 ghost use Rattle.serde_json.specs.View.{view};
 ghost use Rattle.dk_hint.specs.Spelled.{hint_in, hint_in_text, hint_of};
+ghost use Rattle.dk_hint.specs.Written.{IsHint};
 
 use crate::checksum::agrees;
 use crate::fields::hint_in_fields;
@@ -43,7 +44,8 @@ fn hint_in_text(alloc: Global, text: &str) -> Result<Option<Hint>, AllocError>
 /// is spelled or the checksum differs; bytes of any kind may be handed in (Delta Lake's PROTOCOL.md, "Last Checkpoint File",
 /// "JSON checksum"). `Err` says that memory was wanted and not had.
 pub fn read_hint(alloc: Global, bytes: &[u8]) -> Result<Option<Hint>, AllocError>
-    ensures { IfOk result (λ hint. hint ≡ hint_of bytes.now) }
+    ensures read { IfOk result (λ hint. hint ≡ hint_of bytes.now) }
+    ensures in_range { IfOk result (λ hint. IfSome hint IsHint) }
 {
     let Ok(text) = simdutf8::basic::from_utf8(bytes) else {
         return Ok(None);
