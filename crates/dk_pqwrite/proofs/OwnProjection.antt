@@ -18,7 +18,7 @@ use Rattle.dk_pqwrite.proofs.Names.{same_name, names_turned, not_true}
 -- ---- each field is found by its name
 
 -- each field stands among the nodes, as it is written
-abbrev Finds : FileNodes → Fields → Type 0
+abbrev pub Finds : FileNodes → Fields → Type 0
 Finds ns no_fields = Unit {0}
 Finds ns (one_field f fs) = (named_in (field_name f) ns ≡ Some (written_in f)) × Finds ns fs
 
@@ -28,7 +28,7 @@ finds_more n ns (one_field f fs) h t =
     let apart = or_parts (bytes_eq (node_name n) (field_name f)) (is_named (node_name n) fs) h in
     (rw (names_turned (node_name n) (field_name f) apart.0) t.0, finds_more n ns fs apart.1 t.1)
 
-finds_own : (fs : Fields) → are_distinct fs ≡ true → Finds (written_nodes fs) fs
+pub finds_own : (fs : Fields) → are_distinct fs ≡ true → Finds (written_nodes fs) fs
 finds_own no_fields h = tt
 finds_own (one_field (field name b s) fs) h =
     let p = and_parts (not (is_named name fs)) (are_distinct fs) h in

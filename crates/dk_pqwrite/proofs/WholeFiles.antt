@@ -9,7 +9,7 @@ use Rattle.dk_pqmodel.specs.Datum.{Cells, no_cells, one_cell, Column, appended}
 use Rattle.dk_pqmodel.specs.Fits.{AreRowsOf}
 use Rattle.dk_pqmodel.specs.Footer as plain
 use Rattle.dk_pqmodel.specs.FooterBytes.{magic}
-use Rattle.dk_pqmodel.specs.FileMeans.{HasColumns, HasRows, FileMeans, columns_of, rows_in}
+use Rattle.dk_pqmodel.specs.FileMeans.{HasColumns, HasRows, columns_of, rows_in}
 use Rattle.dk_pqmodel.specs.FilePages.{ColumnAt}
 use Rattle.dk_pqmodel.specs.Projection.{Path, projection, rows_widened}
 use Rattle.dk_pqmodel.specs.Triples.{triples}
@@ -22,6 +22,7 @@ use Rattle.dk_pqwrite.specs.Footers.{EndsFile, footer_of, footer_size}
 use Rattle.dk_pqwrite.specs.OverItself.{own_plans, column_path}
 use Rattle.dk_pqwrite.specs.Written.{written_nodes}
 use Rattle.dk_pqwrite.specs.WrittenColumns.{AreHeld, WritesColumns}
+use Rattle.dk_pqwrite.specs.WrittenFile.{MeansAsWritten}
 use Rattle.dk_pqwrite.proofs.BareRows.{own_triples, own_widened}
 use Rattle.dk_pqwrite.proofs.OwnProjection.{fits_own, own_projection}
 use Rattle.dk_pqwrite.proofs.SchemaSizes.{schema_size}
@@ -79,23 +80,26 @@ module _ (fs : Fields) (rows : Cells) (group : RowGroup) (before bytes : List �
   }
 
   means_rows : AreHeld before (columns_of (own_plans fs []) 0 0) (triples fs rows) chunks → map path_of_chunk chunks ≡ map column_path (columns_of (own_plans fs []) 0 0) → EndsFile (footer_of fs group) said before bytes
-      → FileMeans fs bytes rows
+      → MeansAsWritten fs bytes rows
   means_rows held paths ends = record {
-    before = before;
-    part = ends.0;
-    framed = ends.1;
-    footer = footer_of fs group;
-    spelled = ends.2;
-    fitting = fits_own fs is;
-    shares = rows ∷ [];
-    held = (share held paths, tt);
-    count = ap rows_in (nothing_behind rows) ∙ counted;
-    widened = ap (rows_widened (projection fs (written_nodes fs))) (nothing_behind rows) ∙ own_widened fs rows is form;
+    means = record {
+      before = before;
+      part = ends.0;
+      framed = ends.1;
+      footer = footer_of fs group;
+      spelled = ends.2;
+      fitting = fits_own fs is;
+      shares = rows ∷ [];
+      held = (share held paths, tt);
+      count = ap rows_in (nothing_behind rows) ∙ counted;
+      widened = ap (rows_widened (projection fs (written_nodes fs))) (nothing_behind rows) ∙ own_widened fs rows is form;
+    };
+    own = refl;
   }
 
--- the pages of all columns, and a footer of their chunks
+-- the pages of all columns, and a footer of their chunks and the schema
 pub file_means : (fs : Fields) (rows : Cells) (group : RowGroup) (said : FileSaid) (before bytes : List ℕ) → IsSchema fs → AreRowsOf fs rows → rows_in rows ≡ group.rows
-    → WritesColumns (columns_of (own_plans fs []) 0 0) (triples fs rows) group.chunks.items magic before → EndsFile (footer_of fs group) said before bytes → FileMeans fs bytes rows
+    → WritesColumns (columns_of (own_plans fs []) 0 0) (triples fs rows) group.chunks.items magic before → EndsFile (footer_of fs group) said before bytes → MeansAsWritten fs bytes rows
 file_means fs rows group said before bytes is form counted written ends =
     means_rows fs rows group before bytes is form counted said
     (subst (λ all. AreHeld all (columns_of (own_plans fs []) 0 0) (triples fs rows) group.chunks.items) (append-nil before) (written.held [])) written.paths ends

@@ -1,8 +1,9 @@
--- What a written file says of its own bytes.
+-- What a written file means, and what it says of its own bytes.
 use Rattle.std.specs.Prelude.{◌≡◌, ℕ, pos, Some, is_some, List, [], ◌∷◌, ◌++◌, length, map}
 use Rattle.std.specs.List.{flat_map}
 use Rattle.dk_pqmodel.specs.Shape.{Fields}
-use Rattle.dk_pqmodel.specs.FileMeans.{columns_of}
+use Rattle.dk_pqmodel.specs.Datum.{Cells}
+use Rattle.dk_pqmodel.specs.FileMeans.{FileMeans, columns_of}
 use Rattle.dk_pqmodel.specs.FilePages.{ColumnAt}
 use Rattle.dk_pqmodel.specs.FooterBytes.{IsFramed, magic}
 use Rattle.dk_pqwrite.specs.Chunks.{encodings_of}
@@ -11,6 +12,11 @@ use Rattle.dk_pqwrite.specs.Footers.{root_said}
 use Rattle.dk_pqwrite.specs.OverItself.{own_plans}
 use Rattle.dk_pqwrite.specs.Said.{MetaSaid, ChunkSaid, FileSaid, SpellsFileSaid}
 use Rattle.dk_pqwrite.specs.Written.{written_nodes}
+
+-- The file means the rows, and its own schema is the one that is written for these fields: it has no field more.
+pub record MeansAsWritten (fs : Fields) (bytes : List ℕ) (rows : Cells) : Type 0 where
+  pub means : FileMeans fs bytes rows
+  pub own : means.footer.fields ≡ written_nodes fs
 
 -- what is said of a column whose pages are these bytes: its path, how many they are, compressed or not, and the encodings in them, which
 -- are PLAIN and RLE, and RLE_DICTIONARY where there is a dictionary page

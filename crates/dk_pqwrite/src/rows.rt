@@ -10,7 +10,7 @@ ghost use Rattle.dk_pqmodel.specs.Weight.{most_bytes, most_weight, weight};
 ghost use Rattle.dk_pqwrite.specs.SchemaLeaves.{leaf_view};
 ghost use Rattle.dk_pqwrite.specs.Shredded.{AreWritable};
 ghost use Rattle.dk_pqwrite.specs.WrittenColumns.{WritesColumns};
-ghost use Rattle.dk_pqwrite.specs.WrittenFile.{SaysItsBytes};
+ghost use Rattle.dk_pqwrite.specs.WrittenFile.{MeansAsWritten, SaysItsBytes};
 
 use crate::chunk::Chunk;
 use crate::footer::{MAGIC, end_file};
@@ -25,7 +25,8 @@ use std::alloc::{AllocError, Global};
 ///
 /// The file has one row group, with one data page for each column. Where `dictionary` is true each column of texts has a dictionary page
 /// with its distinct texts in the order of their first use. Nothing is compressed. The rows fit the schema, and weigh at most
-/// 1,073,741,824: 16 for each of their cells at every depth, and the length of its text. The only error is want of memory.
+/// 1,073,741,824: 16 for each of their cells at every depth, and the length of its text. The file's own schema is the one that is written
+/// for `schema`, so a reader that looks for other fields finds none of them. The only error is want of memory.
 pub fn write_rows(
     alloc: Global,
     schema: &Schema,
@@ -35,6 +36,7 @@ pub fn write_rows(
     requires fit { Fit (fields_in schema.now) (rows_of rows.now) }
     requires light { weight (rows_of rows.now) ≤ most_weight }
     ensures means { IfOk result (λ v. FileMeans (fields_in schema.now) v.items (rows_of rows.now)) }
+    ensures own { IfOk result (λ v. MeansAsWritten (fields_in schema.now) v.items (rows_of rows.now)) }
     ensures says { IfOk result (λ v. SaysItsBytes (fields_in schema.now) (length rows.now) v.items) }
     ensures small { IfOk result (λ v. length v.items ≤ most_bytes (fields_in schema.now) (rows_of rows.now)) }
 {

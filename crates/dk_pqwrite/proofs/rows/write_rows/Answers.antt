@@ -40,8 +40,10 @@ returns c =
     let group : RowGroup = record { rows = length c.args.rows.now; size = _; chunks = chunks } in
     let written = of_schema (file_columns (own_plans fs []) 0 0) (triples fs rows) (map leaf_view c.in_ok-leaves.leaves.items) (borrowed_columns c.deref.result.now) chunks.items magic
     c.extend_from_slice.new.self.items before c.in_ok-leaves.ensures cut started c.in_ok-chunks.ensures in
+    let own = file_means fs rows group _ before bytes schema (fitting_rows_match fs rows c.requires.fit) (rows_counted c.args.rows.now) written c.in_ok-end_file.ensures.ended in
     record {
-      means = file_means fs rows group _ before bytes schema (fitting_rows_match fs rows c.requires.fit) (rows_counted c.args.rows.now) written c.in_ok-end_file.ensures.ended;
+      means = own.means;
+      own = own;
       says = says_bytes fs (triples fs rows) group before bytes written (omega (arith, c.len.ensures, c.write_columns.new.out.ok.0, ap length written.added)) c.in_ok-end_file.ensures.ended;
       small = few_bytes fs rows chunks.items before bytes schema written c.in_ok-end_file.ensures.size;
     }
