@@ -36,7 +36,7 @@ impl<'a> Latest<'a> {
         }
     }
 
-    /// Takes the action as the last one on its key.
+    /// Takes the action as the last one on its key. Refused by want of memory alone.
     pub fn set(&mut self, key: &'a str, action: &'a Action) -> Result<(), AllocError>
         ensures { OnOk result (self.new ≡ put_text self.old key.now action.now) }
     {
@@ -44,7 +44,7 @@ impl<'a> Latest<'a> {
         Ok(())
     }
 
-    /// Adds these actions to a list, settled, in the order of their keys.
+    /// Adds these actions to a list, settled, in the order of their keys. Refused by want of memory alone.
     pub fn append_to(self, alloc: Global, list: &mut Vec<Action>) -> Result<(), AllocError>
         ensures { OnOk result (list.new.items ≡ list.old.items ++ map settled (actions_in self.entry)) }
     {

@@ -10,7 +10,8 @@ pub fn summaries_sum()
 {}
 
 /// Worked sums: a domain that is set and then removed leaves its removal; of each application and path the last action
-/// stands, whichever commit it is of; the removal of a file stays, however old it is.
+/// stands, whichever commit it is of; the removal of a file stays, however old it is (Delta Lake's PROTOCOL.md, "Log
+/// Compaction Files").
 pub fn worked_sums()
     ensures domain { RemovedDomainStays }
     ensures last { LastStands }

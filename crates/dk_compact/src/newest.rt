@@ -41,7 +41,7 @@ impl<'a> Single<'a> {
         }
     }
 
-    /// Adds the action to a list, settled, where there is one.
+    /// Adds the action to a list, settled, where there is one. Refused by want of memory alone.
     fn append_to(self, alloc: Global, list: &mut Vec<Action>) -> Result<(), AllocError>
         ensures { OnOk result (list.new.items ≡ list.old.items ++ map settled (option_to_list self.entry)) }
     {
@@ -76,7 +76,7 @@ impl<'a> Newest<'a> {
         }
     }
 
-    /// Takes one action more as the last one on its key.
+    /// Takes one action more as the last one on its key. Refused by want of memory alone.
     pub fn take(&mut self, action: &'a Action) -> Result<(), AllocError>
         ensures { OnOk result (self.new ≡ newest_with self.old action.now) }
     {
@@ -99,7 +99,7 @@ impl<'a> Newest<'a> {
         }
     }
 
-    /// Takes the actions of a commit, in order.
+    /// Takes the actions of a commit, in order. Refused by want of memory alone.
     pub fn take_all(&mut self, actions: &'a [Action]) -> Result<(), AllocError>
         ensures { OnOk result (self.new ≡ taken_all self.old actions.now) }
     {
@@ -109,7 +109,8 @@ impl<'a> Newest<'a> {
         Ok(())
     }
 
-    /// The actions, settled: protocol, metadata, applications, domains, and adds and removes mixed by path.
+    /// The actions, settled: protocol, metadata, applications, domains, and adds and removes mixed by path. Refused by want of
+    /// memory alone.
     pub fn into_actions(self, alloc: Global) -> Result<Vec<Action>, AllocError>
         ensures { IfOk result (λ list. list.items ≡ map settled (in_order_of_kinds self.entry)) }
     {

@@ -6,7 +6,8 @@ ghost use Rattle.dk_compact.specs.Settled.{settled};
 use dk_model::Action;
 use std::alloc::{AllocError, Global};
 
-/// A copy of the action that doesn't say that it changes data.
+/// A copy of the action that doesn't say that it changes data (Delta Lake's PROTOCOL.md, "Log Compaction Files"). Refused
+/// by want of memory alone.
 pub fn settle(alloc: Global, action: &Action) -> Result<Action, AllocError>
     ensures { IfOk result (λ copied. copied ≡ settled action.now) }
 {
