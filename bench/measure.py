@@ -1,4 +1,5 @@
-"""What the yardsticks share: numbers as Thrift writes them, and the time of a program."""
+"""What the yardsticks share: numbers as Thrift writes them, and the time and the memory of a program."""
+import os
 import subprocess
 import time
 
@@ -33,3 +34,13 @@ def least(command):
         subprocess.run(command, check=True, stdout=subprocess.DEVNULL)
         times.append(time.perf_counter() - start)
     return min(times)
+
+
+def peak(command):
+    """The most memory that a run of a program held, in bytes."""
+    with subprocess.Popen(command, stdout=subprocess.DEVNULL) as program:
+        _, status, used = os.wait4(program.pid, 0)
+        program.returncode = os.waitstatus_to_exitcode(status)
+    if program.returncode:
+        raise subprocess.CalledProcessError(program.returncode, command)
+    return 1024 * used.ru_maxrss

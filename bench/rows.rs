@@ -1,9 +1,14 @@
-//! A plain reader and writer of Parquet files of the kind that checkpoints are, without dependencies: the program beside `dk_bench rows`
-//! and `dk_bench write`.
+//! A plain reader and writer of Parquet files of the kind that checkpoints are, without dependencies: the program beside `dk_bench rows`,
+//! `write`, `checkpoint` and `classic`.
 //!
 //! `rows make FILE ROWS GROUPS PAGES plain|dictionary` writes a file of so many rows, in so many row groups with so many data pages a
 //! column; `rows read FILE TIMES` reads its rows so many times and prints how many they were; `rows write FILE TIMES plain|dictionary`
 //! reads its rows once, writes them so many times in one row group with one data page a column, and prints how many bytes these were.
+//! `rows read_actions FILE TIMES` reads the actions of its rows so many times and prints how many they were; `rows classic FILE TIMES` takes
+//! them into a state, writes its checkpoint so many times, and prints how many bytes these were; `rows commit FILE TO` writes them as the
+//! lines of a commit.
+
+mod actions;
 
 use std::collections::HashMap;
 
@@ -787,6 +792,10 @@ fn pairs(pairs: &[(&str, String)]) -> Cell {
     Cell::List(pairs.iter().map(|(key, value)| Cell::Group(vec![chars(*key), chars(value.clone())])).collect())
 }
 
+fn pairs_of(pairs: &actions::Pairs) -> Cell {
+    Cell::List(pairs.iter().map(|(key, value)| Cell::Group(vec![chars(key.as_str()), value.as_deref().map_or(Cell::Null, chars)])).collect())
+}
+
 /// A row with one action, at the place of its top field.
 fn row(place: usize, cells: Vec<Cell>) -> Vec<Cell> {
     let mut row = vec![Cell::Null; 6];
@@ -815,6 +824,13 @@ fn rows_of(count: usize) -> Vec<Vec<Cell>> {
         });
     }
     rows
+}
+
+fn read_actions(bytes: &[u8]) -> Vec<actions::Action> {
+    let fields = schema();
+    let mut leaves = Vec::new();
+    add_leaves(&fields, &[], 0, 0, &mut leaves);
+    actions::actions_of(read_rows(bytes, &fields, &leaves))
 }
 
 fn main() {
@@ -848,6 +864,28 @@ fn main() {
             }
             println!("{total}");
         }
-        _ => panic!("rows make FILE ROWS GROUPS PAGES plain|dictionary, rows read FILE TIMES, or rows write FILE TIMES plain|dictionary"),
+        ["read_actions", file, times] => {
+            let bytes = std::fs::read(file).unwrap();
+            let mut total = 0;
+            for _ in 0..times.parse().unwrap() {
+                total += read_actions(&bytes).len();
+            }
+            println!("{total}");
+        }
+        ["classic", file, times] => {
+            let state = actions::state_of(read_actions(&std::fs::read(file).unwrap()));
+            let mut total = 0;
+            for _ in 0..times.parse().unwrap() {
+                total += write_rows(&actions::rows_of_state(&state, 0), 1, 1, false).len();
+            }
+            println!("{total}");
+        }
+        ["commit", file, to] => {
+            let lines: Vec<String> = read_actions(&std::fs::read(file).unwrap()).iter().map(actions::line_of).collect();
+            std::fs::write(to, lines.join("\n")).unwrap();
+        }
+        _ => panic!(
+            "rows make FILE ROWS GROUPS PAGES plain|dictionary, rows read|read_actions|classic FILE TIMES, rows write FILE TIMES plain|dictionary, or rows commit FILE TO"
+        ),
     }
 }

@@ -1,7 +1,9 @@
 //! The words, and the calls that they name.
 
+use crate::checkpoints::{read_checkpoints, write_checkpoints};
 use crate::conflicts::find_conflicts;
 use crate::rows::{read_files, rewrite, write_files};
+use dk_engine::Refusal;
 use dk_hybrid::{HybridFault, decode};
 use dk_model::LineFault;
 use dk_pages::next_page;
@@ -26,6 +28,8 @@ pub(crate) enum Trouble {
     Unwritable,
     /// A line of the text is no action.
     Line(LineFault),
+    /// The table isn't opened, or its checkpoint isn't read or written.
+    Table(Refusal),
     /// There is no memory for the call.
     OutOfMemory,
 }
@@ -45,6 +49,12 @@ impl From<HybridFault> for Trouble {
 impl From<PqFault> for Trouble {
     fn from(fault: PqFault) -> Self {
         Trouble::Parquet(fault)
+    }
+}
+
+impl From<Refusal> for Trouble {
+    fn from(refusal: Refusal) -> Self {
+        Trouble::Table(refusal)
     }
 }
 
@@ -145,20 +155,29 @@ fn replace(
     Ok(written.len() as u64)
 }
 
+/// Makes the call over the bytes of the file, and answers what it counts.
+fn over_file(rt: &HostRuntime, wanted: &Wanted) -> Result<u64, Trouble> {
+    let bytes = fs::read(rt, wanted.file.as_str())?;
+    match wanted.call.as_str() {
+        "runs" => decode_runs(rt.alloc(), &bytes, wanted),
+        "footer" => read_footers(rt.alloc(), &bytes, wanted),
+        "pages" => read_pages(&bytes, wanted),
+        "rows" => read_files(rt.alloc(), &bytes, wanted.times),
+        "write" => write_files(rt.alloc(), &bytes, false, wanted.times),
+        "write_coded" => write_files(rt.alloc(), &bytes, true, wanted.times),
+        "rewrite" => replace(rt, &bytes, false, wanted),
+        "rewrite_coded" => replace(rt, &bytes, true, wanted),
+        "conflicts" => find_conflicts(rt.alloc(), &bytes, wanted.count, wanted.times),
+        _ => Err(Trouble::Usage),
+    }
+}
+
 fn try_call(rt: &HostRuntime) -> Result<(), Trouble> {
     let wanted = read_words(rt)?;
-    let bytes = fs::read(rt, wanted.file.as_str())?;
     let total = match wanted.call.as_str() {
-        "runs" => decode_runs(rt.alloc(), &bytes, &wanted)?,
-        "footer" => read_footers(rt.alloc(), &bytes, &wanted)?,
-        "pages" => read_pages(&bytes, &wanted)?,
-        "rows" => read_files(rt.alloc(), &bytes, wanted.times)?,
-        "write" => write_files(rt.alloc(), &bytes, false, wanted.times)?,
-        "write_coded" => write_files(rt.alloc(), &bytes, true, wanted.times)?,
-        "rewrite" => replace(rt, &bytes, false, &wanted)?,
-        "rewrite_coded" => replace(rt, &bytes, true, &wanted)?,
-        "conflicts" => find_conflicts(rt.alloc(), &bytes, wanted.count, wanted.times)?,
-        _ => return Err(Trouble::Usage),
+        "checkpoint" => read_checkpoints(rt, wanted.file.as_str(), wanted.times)?,
+        "classic" => write_checkpoints(rt, wanted.file.as_str(), wanted.times)?,
+        _ => over_file(rt, &wanted)?,
     };
     println!(rt; "{total}")?;
     Ok(())

@@ -1,8 +1,9 @@
-//! `dk_bench CALL WIDTH COUNT TIMES FILE`: makes a library call over the bytes of a file so many times, and prints how
-//! many values came of it. It is run by the scripts of `bench/`, which take the times.
+//! `dk_bench CALL WIDTH COUNT TIMES FILE`: makes a library call over the bytes of a file, or over a table's folder, so many
+//! times, and prints how many values came of it. It is run by the scripts of `bench/`, which take the times.
 #![tactic(auto)]
 
 mod calls;
+mod checkpoints;
 mod conflicts;
 mod rows;
 
