@@ -49,7 +49,7 @@ log_text : (events : List Told) (limits : Limits) (at : Option ℕ) (choice : Ch
 log_text events limits at choice now log version kept published is ends within asks read =
     ap text_of_opened (opened_is events log limits at choice version now published is ends within asks)
     ∙ ap (λ cut. text_of_opened (snapshot_with version (segment_at events version choice) (with_cut (fold (take (version + 1) log)) cut)))
-    (cut_is (oldest_path (segment_at events version choice).steps) (fold (take (version + 1) log)) kept now read)
+    (cut_is (oldest_path (segment_at events version choice)) (fold (take (version + 1) log)) kept now read)
 
 -- what was asked for is what the words ask for, at the moment of the call
 pub as_asked : (told : Option (List Told)) (limits : Limits) (asked : Option Command) (given at : Option ℕ) (chosen choice : Choice) (now passed : ℤ) (old new : Option (List ℕ)) (status : Status)

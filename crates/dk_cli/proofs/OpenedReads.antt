@@ -20,8 +20,8 @@ use Rattle.dk_engine.specs.declared.refusal.Refusal.TheVariants.{Damaged, Unsupp
 use Rattle.dk_snapshot.specs.declared.table.Snapshot.{Snapshot}
 use Rattle.dk_snapshot.specs.Asked.{version_asked}
 use Rattle.dk_snapshot.specs.Opening.{snapshot_with, with_cut}
-use Rattle.dk_snapshot.specs.Opens.{BaseIsRead, oldest_object, state_behind, OpensChosen, OpensAsked, Opens}
-use Rattle.dk_snapshot.specs.Steps.{commits_of_steps}
+use Rattle.dk_snapshot.specs.Opens.{BaseIsRead, state_behind, OpensChosen, OpensAsked, Opens}
+use Rattle.dk_snapshot.specs.Steps.{commits_of_steps, oldest_path}
 use Rattle.dk_snapshot.specs.Support.{has_vectors, unreadable, retention_key, retention, cut_before, cut_unless, cut_with, cut_of}
 use Rattle.dk_cli.specs.ShownHistory.{IsFoldOf, IsReadWithCut}
 
@@ -91,11 +91,11 @@ module _ (events : List Told) (limits : Limits) (now : ℤ) (snapshot : Snapshot
         same = let both : ◌≡◌ {A = Result Snapshot Refusal} (Ok snapshot) (Ok made) = is in cc
 
     over_read : (base : Result (List Action) Refusal) (commits : Result (List (List Action)) Refusal) → BaseIsRead events limits segment.base base → commits_of_steps events limits.object segment.steps ≡ commits
-        → Ok snapshot ≡ snapshot_with version segment (state_behind (oldest_object segment.base segment.steps) now base commits) → IsReadOf events limits now snapshot
+        → Ok snapshot ≡ snapshot_with version segment (state_behind (oldest_path segment) now base commits) → IsReadOf events limits now snapshot
     over_read base (Err refusal) read are is = absurd (let fails : ◌≡◌ {A = Result Snapshot Refusal} (Ok snapshot) (Err refusal) = is in cc)
     over_read (Err refusal) (Ok commits) read are is = absurd (let fails : ◌≡◌ {A = Result Snapshot Refusal} (Ok snapshot) (Err refusal) = is in cc)
     over_read (Ok base) (Ok commits) read are is =
-        cut_read (oldest_object segment.base segment.steps) (steps_of_all (steps empty_state base) commits) (cut_of (oldest_object segment.base segment.steps) (steps_of_all (steps empty_state base) commits) now)
+        cut_read (oldest_path segment) (steps_of_all (steps empty_state base) commits) (cut_of (oldest_path segment) (steps_of_all (steps empty_state base) commits) now)
         (base, commits, read, are, refl) refl is
 
   asked_read : (choice : Choice) (asked : Result ℕ Refusal) → OpensAsked events limits choice now asked (Ok snapshot) → IsReadOf events limits now snapshot

@@ -12,7 +12,7 @@ ghost use Rattle.dk_cli.specs.Show.{ShowsAs, text_of_snapshot};
 use crate::text::shown_text;
 use dk_engine::{Engine, Refusal};
 use dk_lawful::Choice;
-use dk_snapshot::{Snapshot, open_at};
+use dk_snapshot::{OpenOptions, Snapshot, open_at};
 use std::alloc::{AllocError, Global};
 
 /// The text of a snapshot.
@@ -35,16 +35,12 @@ fn open(
     ensures refusals { IfErr result (OpenRefuses at) }
     ensures means { IfTold (seen (held engine.old.store)) (λ events. AnswersBy (λ snapshot. snapshot) result (Opens events engine.old.limits at choice.now now)) }
 {
-    let limits = engine.limits;
-    open_at(
-        alloc,
-        &mut *engine.store,
-        &mut *engine.json,
-        limits,
-        at,
-        choice,
+    let options = OpenOptions {
+        limits: engine.limits,
         now,
-    )
+        choice: *choice,
+    };
+    open_at(alloc, &mut *engine.store, &mut *engine.json, at, options)
 }
 
 /// The whole output of `show` of a version.

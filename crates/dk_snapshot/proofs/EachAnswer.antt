@@ -32,7 +32,7 @@ module _ (events : List Told) (horizon : ℤ) (lawful : Lawful events horizon) (
         subst (λ (v : ℕ). AsksVersion events at v) same asks,
         subst (λ (v : ℕ). IsKeptBy events v choice) same kept,
         state ∙ ap (table_at events) same,
-        state_cut (oldest_path (segment_by events version choice).steps) snapshot.state now snapshot.cut (ap (λ (s : TableState). cut_of (oldest_path (segment_by events version choice).steps) s now) state ∙ is.cut),
+        state_cut (oldest_path (segment_by events version choice)) snapshot.state now snapshot.cut (ap (λ (s : TableState). cut_of (oldest_path (segment_by events version choice)) s now) state ∙ is.cut),
       )
   kept_answer at version asks kept (Err (Limit Object size)) is = (version, asks, kept, is)
   kept_answer at version asks kept (Err (Unsupported name)) is = (version, asks, kept, is.0, is.1)

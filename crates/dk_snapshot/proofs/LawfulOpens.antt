@@ -89,7 +89,7 @@ pub record IsExactly (events : List Told) (limits : Limits) (now : ℤ) (version
   pub is_segment : snapshot.segment ≡ segment
   pub state : snapshot.state ≡ table_at events version
   pub within : AreWithinLimit events limits.object segment.steps
-  pub cut : cut_of (oldest_path segment.steps) (table_at events version) now ≡ Ok snapshot.cut
+  pub cut : cut_of (oldest_path segment) (table_at events version) now ≡ Ok snapshot.cut
 
 abbrev pub Exactly : List Told → Limits → ℤ → ℕ → Segment → Result Snapshot Refusal → Type 0
 Exactly events limits now version segment (Ok snapshot) = IsExactly events limits now version segment snapshot
@@ -125,20 +125,20 @@ exactly_answers events horizon limits now version segment (Err _) is = absurd is
 -- a segment whose steps are read as these commits, or not read for an object over the limit
 read_exactly : (events : List Told) (limits : Limits) (now : ℤ) (version : ℕ) (segment : Segment) → HasHeads (table_at events version) → CanBeRead (table_at events version)
     → ReadsTo events limits.object segment.steps (take (version + 1) (commits_of (history events))) (reading.commits_of_steps events limits.object segment.steps)
-    → Exactly events limits now version segment (snapshot_with version segment (state_of_commits (oldest_path segment.steps) now (reading.commits_of_steps events limits.object segment.steps)))
+    → Exactly events limits now version segment (snapshot_with version segment (state_of_commits (oldest_path segment) now (reading.commits_of_steps events limits.object segment.steps)))
 read_exactly events limits now version segment heads can found = by (reading.commits_of_steps events limits.object segment.steps) found
   where
-    by_cut : (state : TableState) → state ≡ table_at events version → AreWithinLimit events limits.object segment.steps → (cut : Result ℤ Refusal) → cut_of (oldest_path segment.steps) (table_at events version) now ≡ cut → IsCut (table_at events version).protocol (table_at events version).metadata cut
+    by_cut : (state : TableState) → state ≡ table_at events version → AreWithinLimit events limits.object segment.steps → (cut : Result ℤ Refusal) → cut_of (oldest_path segment) (table_at events version) now ≡ cut → IsCut (table_at events version).protocol (table_at events version).metadata cut
         → Exactly events limits now version segment (snapshot_with version segment (with_cut state cut))
     by_cut state same all (Ok cut) is fine = record { is_version = refl; is_segment = refl; state = same; within = all; cut = is }
     by_cut state same all (Err (Unsupported name)) is fine = (all, fine)
     by_cut state same all (Err _) is fine = absurd fine
 
     by : (read : Result (List (List Action)) Refusal) → ReadsTo events limits.object segment.steps (take (version + 1) (commits_of (history events))) read
-        → Exactly events limits now version segment (snapshot_with version segment (state_of_commits (oldest_path segment.steps) now read))
+        → Exactly events limits now version segment (snapshot_with version segment (state_of_commits (oldest_path segment) now read))
     by (Ok commits) reads_them =
         let same : fold commits ≡ table_at events version = ap fold reads_them.0 in
-        let oldest : List ℕ = oldest_path segment.steps in
+        let oldest : List ℕ = oldest_path segment in
         subst (λ (cut : Result ℤ Refusal). Exactly events limits now version segment (snapshot_with version segment (with_cut (fold commits) cut))) (ap (λ (s : TableState). cut_of oldest s now) (sym same))
         (by_cut (fold commits) same reads_them.1 (cut_of oldest (table_at events version) now) refl (heads_cut oldest (table_at events version) now heads can))
     by (Err (Limit Object size)) reads_them = reads_them
@@ -215,7 +215,7 @@ module _ (events : List Told) (horizon : ℤ) (lawful : Lawful events horizon) (
   cut_is : (at : Option ℕ) (snapshot : Snapshot) → opened events limits at choice now ≡ Ok snapshot → HasCut snapshot.state.metadata now snapshot.cut
   cut_is at snapshot opens =
       let exactly = snapshot_exactly at snapshot opens in
-      let oldest : List ℕ = oldest_path (segment_by events snapshot.version choice).steps in
+      let oldest : List ℕ = oldest_path (segment_by events snapshot.version choice) in
       state_cut oldest snapshot.state now snapshot.cut (ap (λ (s : TableState). cut_of oldest s now) exactly.state ∙ exactly.cut)
 
   -- ---- what isn't

@@ -1,12 +1,11 @@
 -- Each table of a lawful log is one that the law reads: its reader version and its features are, and no deletion vector stands beside a file.
 -- So it is read, unless it awaits a feature that isn't built so far.
-use Rattle.std.proofs.Common.{◌≡◌, ◌⊎◌, ℕ, ℤ, ◌+◌, ◌<◌, ◌≤◌, Bool, true, false, not, true≢false, ◌&&◌, inl, inr, List, [], ◌∷◌, ◌++◌, length, take, Option, Some, None, IfSome, if◌then◌else◌, cond, refl, sym, ap, subst, ◌∙◌, arith, length-append, nat_cmp, Global}
+use Rattle.std.proofs.Common.{◌≡◌, ◌⊎◌, ℕ, ℤ, ◌+◌, ◌<◌, ◌≤◌, Bool, true, false, not, true≢false, inl, inr, List, [], ◌∷◌, ◌++◌, length, take, Option, Some, None, IfSome, if◌then◌else◌, cond, refl, sym, ap, subst, ◌∙◌, arith, length-append, Global}
 use Rattle.std.specs.Prelude.{IsSome, int_le, pos}
-use Rattle.std.specs.List.{list_any, AllByRecursion}
+use Rattle.std.specs.List.{list_any}
 use Rattle.std.specs.Option.{option_or}
 use Rattle.std.specs.FinMap.{get}
 use Rattle.std.specs.FinMap as map
-use Rattle.std.specs.Cmp.Lexicographic.{slice_cmp}
 use Rattle.std.proofs.lemmas.Bool.{and_parts, cases_lt}
 use Rattle.std.proofs.lemmas.List.{take-append-le, map-append}
 use Rattle.std.proofs.Math.Seq.{take-length}
@@ -36,7 +35,7 @@ use Rattle.dk_lawful.proofs.Sound.{length_commits}
 use Rattle.dk_lawful.proofs.SoundOthers.{lawful_is_sound}
 use Rattle.dk_lawful.proofs.Validly.{GoesOnValidly, goes_on_validly}
 use Rattle.dk_lawful.proofs.Words.{Entries, AreOf, entries_are_of}
-use Rattle.dk_snapshot.specs.Support.{has_vectors, unreadable}
+use Rattle.dk_snapshot.specs.Support.{unreadable}
 
 -- no deletion vector stands beside a file
 abbrev AreBare : ByText AddFile → Type 0

@@ -1,6 +1,7 @@
 pub mod Greatest
 pub mod History
 pub mod SizeMaps
+pub mod Sidecars
 pub mod StepReads
 pub mod Segments
 pub mod FromListing

@@ -1,5 +1,5 @@
 -- What may open of a log, by the value that its commits alone have.
-use Rattle.std.proofs.Common.{◌≡◌, Some, sym, subst, ◌∙◌}
+use Rattle.std.proofs.Common.{Some, sym, subst, ◌∙◌}
 use Rattle.std.specs.Prelude.{Result, Ok}
 use Rattle.dk_lawful.specs.History.{table_at}
 use Rattle.dk_engine.specs.declared.refusal.Refusal.{Refusal}

@@ -2,7 +2,6 @@
 use Rattle.std.proofs.Common.{◌≡◌, ℕ, ℤ, List, [], Option, Some, None, refl, sym, ap, subst, ◌∙◌}
 use Rattle.std.specs.Prelude.{Result, Ok, Err, IfSome}
 use Rattle.dk_model.specs.declared.action.Action.{Action}
-use Rattle.dk_model.specs.declared.state.TableState.{TableState}
 use Rattle.dk_store.specs.Told.{Told}
 use Rattle.dk_store.specs.Standings.{standing}
 use Rattle.dk_lawful.specs.declared.segment.Choice.{Choice}
@@ -19,7 +18,7 @@ use Rattle.dk_listing.specs.OfEvents.{IsListingOf, stands_at, latest}
 use Rattle.dk_segment.specs.Chosen.{unless_gap}
 use Rattle.dk_snapshot.specs.declared.table.Snapshot.{Snapshot}
 use Rattle.dk_snapshot.specs.Asked.{version_asked}
-use Rattle.dk_snapshot.specs.Opening.{state_of_commits, read_of, snapshot_with, opened_segment, opened_chosen, opened_asked, opened}
+use Rattle.dk_snapshot.specs.Opening.{state_of_commits, snapshot_with, opened_segment, opened_chosen, opened_asked, opened}
 use Rattle.dk_snapshot.specs.Opens.{state_behind, opened_over, OpensFrom, OpensChosen, OpensAsked, Opens, OpensAsSome, OpensAsOne}
 use Rattle.dk_snapshot.specs.Steps.{commits_of_steps, oldest_path}
 
@@ -33,7 +32,7 @@ module _ (events : List Told) (limits : Limits) (now : ℤ) (version : ℕ) (ste
   walked = record { base = None; steps = steps }
 
   opened_alone : opened_over events limits now version walked (Ok []) ≡ opened_segment events limits now version walked
-  opened_alone = ap (snapshot_with version walked) (same_state (oldest_path steps) now (commits_of_steps events limits.object steps))
+  opened_alone = ap (snapshot_with version walked) (same_state (oldest_path walked) now (commits_of_steps events limits.object steps))
 
   from_opens : OpensFrom events limits now version walked (opened_segment events limits now version walked)
   from_opens = (Ok [], refl, sym opened_alone)

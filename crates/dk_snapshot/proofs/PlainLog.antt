@@ -243,7 +243,7 @@ segment_at events version choice = commit_segment (stands_at events) (standing e
 
 pub opened_is : (events : List Told) (log : List (List Action)) (limits : Limits) (at : Option ℕ) (choice : Choice) (version : ℕ) (now : ℤ) → choice.staged_first ≡ false → IsLog events log → EndsWith events (length log) → AreCommitsWithin limits.object events → AsksFor at log version
     → opened events limits at choice now
-    ≡ snapshot_with version (segment_at events version choice) (state_read (oldest_path (segment_at events version choice).steps) now (states.fold (take (version + 1) log)))
+    ≡ snapshot_with version (segment_at events version choice) (state_read (oldest_path (segment_at events version choice)) now (states.fold (take (version + 1) log)))
 opened_is events log limits at choice version now published is ends within asks =
     let below : version < length log = asked_below log version at asks in
     let some : 0 < length log = is.some in
@@ -255,4 +255,4 @@ opened_is events log limits at choice version now published is ends within asks 
     ap (λ (first : Bool). commits_of_steps events limits.object (steps_from (commit_place (stands_at events) (standing events) first) 0 (version + 1))) published ∙ log_commits events log is limits.object within (version + 1) (omega arith) in
     ap (opened_asked events limits choice now) last
     ∙ ap (opened_chosen events limits now version) chooses
-    ∙ ap (λ (read : Result (List (List Action)) Refusal). snapshot_with version (segment_at events version choice) (state_of_commits (oldest_path (segment_at events version choice).steps) now read)) commits
+    ∙ ap (λ (read : Result (List (List Action)) Refusal). snapshot_with version (segment_at events version choice) (state_of_commits (oldest_path (segment_at events version choice)) now read)) commits

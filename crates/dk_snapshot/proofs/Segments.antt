@@ -141,7 +141,7 @@ state_by_changes oldest now (Ok commits) = ap (λ (s : TableState). state_read o
 state_by_changes oldest now (Err refusal) = refl
 
 pub segment_read : {X : Type 0} (view : X → TableState × ℤ) (told : Option (List Told)) (limits : Limits) (now passed : ℤ) (oldest : List ℕ) (walked : List Step) (segment : Segment) (sizes : List (Option ℕ)) (found : List Action) (result : Result X Refusal)
-    → passed ≡ now → walked ≡ segment.steps → oldest ≡ oldest_path walked
+    → passed ≡ now → walked ≡ segment.steps → oldest ≡ oldest_path segment
     → IfSome told (λ events. AreSized events walked sizes → changes_read (commits_of_steps events limits.object walked) ≡ Ok (reverse found))
     → AnswersMeant view result (state_read oldest passed (steps empty_state (reverse found)))
     → IfSome told (λ events. AreSized events segment.steps sizes → AnswersMeant view result (read_of events limits now segment))
@@ -150,7 +150,7 @@ segment_read view (Some events) limits now passed oldest walked segment sizes fo
     let here : AreSized events walked sizes = subst (λ (s : List Step). AreSized events s sizes) (sym walk) sized in
     gives_same view result (state_read oldest passed (steps empty_state (reverse found))) (read_of events limits now segment)
     (ap (by_changes oldest passed) (sym (reads here)) ∙ state_by_changes oldest passed (commits_of_steps events limits.object walked) ∙ ap₂ (λ (o : List ℕ) (n : ℤ). state_of_commits o n (commits_of_steps events limits.object walked)) path same
-    ∙ ap (λ (s : List Step). state_of_commits (oldest_path s) now (commits_of_steps events limits.object s)) walk) means
+    ∙ ap (λ (s : List Step). state_of_commits (oldest_path segment) now (commits_of_steps events limits.object s)) walk) means
 
 pub segment_refused : (told : Option (List Told)) (limits : Limits) (now : ℤ) (walked : List Step) (segment : Segment) (sizes : List (Option ℕ)) (refusal : Refusal) → walked ≡ segment.steps
     → IfSome told (λ events. AreSized events walked sizes → Refuses refusal (changes_read (commits_of_steps events limits.object walked)))
@@ -158,9 +158,9 @@ pub segment_refused : (told : Option (List Told)) (limits : Limits) (now : ℤ) 
 segment_refused None limits now walked segment sizes refusal walk refused = tt
 segment_refused (Some events) limits now walked segment sizes refusal walk refused = λ sized.
     let here : AreSized events walked sizes = subst (λ (s : List Step). AreSized events s sizes) (sym walk) sized in
-    subst (λ (s : List Step). Refuses refusal (state_of_commits (oldest_path s) now (commits_of_steps events limits.object s))) walk
-    (subst (λ (read : Result (TableState × ℤ) Refusal). Refuses refusal read) (state_by_changes (oldest_path walked) now (commits_of_steps events limits.object walked))
-    (refused_by_part (by_changes (oldest_path walked) now) (λ r. refl) refusal (changes_read (commits_of_steps events limits.object walked)) (refused here)))
+    subst (λ (s : List Step). Refuses refusal (state_of_commits (oldest_path segment) now (commits_of_steps events limits.object s))) walk
+    (subst (λ (read : Result (TableState × ℤ) Refusal). Refuses refusal read) (state_by_changes (oldest_path segment) now (commits_of_steps events limits.object walked))
+    (refused_by_part (by_changes (oldest_path segment) now) (λ r. refl) refusal (changes_read (commits_of_steps events limits.object walked)) (refused here)))
 
 -- a snapshot of what was read is that of what is meant
 snapshot_given : (version : ℕ) (segment : Segment) (read meant : Result (TableState × ℤ) Refusal) → AnswersMeant (λ (r : TableState × ℤ). r) read meant

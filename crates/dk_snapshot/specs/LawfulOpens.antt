@@ -111,7 +111,7 @@ pub record IsVersionOf (events : List Told) (horizon : ℤ) (limits : Limits) (n
   pub is_segment : snapshot.segment ≡ segment
   pub state : Agree snapshot.state (table_at events version) horizon
   pub within : AreWithinLimit events limits.object segment.steps
-  pub cut : cut_of (oldest_path segment.steps) (table_at events version) now ≡ Ok snapshot.cut
+  pub cut : cut_of (oldest_path segment) (table_at events version) now ≡ Ok snapshot.cut
 
 -- It is that, or an object of the segment is over the limit, or the table asks for what isn't read; the size is that of the newest such object.
 abbrev pub AnswersVersion : List Told → ℤ → Limits → ℤ → ℕ → Segment → Result Snapshot Refusal → Type 0

@@ -6,7 +6,9 @@ pub mod History
 pub mod Asked
 pub mod Surveyed
 pub mod Sizes
+pub mod Sidecars
 pub mod Steps
+pub mod OldestExample
 pub mod Opening
 pub mod Opens
 pub mod Effects

@@ -37,7 +37,7 @@ state_of_commits oldest now (Ok commits) = state_read oldest now (fold commits)
 state_of_commits oldest now (Err refusal) = Err refusal
 
 abbrev pub read_of : List Told → Limits → ℤ → Segment → Result (TableState × ℤ) Refusal
-read_of events limits now segment = state_of_commits (oldest_path segment.steps) now (commits_of_steps events limits.object segment.steps)
+read_of events limits now segment = state_of_commits (oldest_path segment) now (commits_of_steps events limits.object segment.steps)
 
 -- ---- a version
 

@@ -1,16 +1,14 @@
 -- What a version of the table may open as, by the events of the store: a relation with one value, since what a checkpoint means is one
 -- (Delta Lake's PROTOCOL.md, "Delta Log Entries", "Checkpoints", "Action Reconciliation").
-use Rattle.std.specs.Prelude.{ℕ, ℤ, ◌≡◌, List, [], ◌∷◌, Option, Some, None, Result, Ok, Err}
+use Rattle.std.specs.Prelude.{ℕ, ℤ, ◌≡◌, List, [], Option, Some, None, Result, Ok, Err}
 use Rattle.dk_store.specs.Told.{Told}
 use Rattle.dk_store.specs.Standings.{standing}
 use Rattle.dk_model.specs.declared.action.Action.{Action}
 use Rattle.dk_model.specs.declared.state.TableState.{TableState}
 use Rattle.dk_model.specs.State.{empty_state, steps, steps_of_all}
 use Rattle.dk_lawful.specs.declared.segment.CheckpointRef.{CheckpointRef}
-use Rattle.dk_lawful.specs.declared.segment.CheckpointRef.TheVariants as checkpoint
 use Rattle.dk_lawful.specs.declared.segment.Choice.{Choice}
 use Rattle.dk_lawful.specs.declared.segment.Segment.{Segment}
-use Rattle.dk_lawful.specs.declared.segment.Step.{Step}
 use Rattle.dk_engine.specs.declared.limits.Limits.{Limits}
 use Rattle.dk_engine.specs.declared.refusal.Refusal.{Refusal}
 use Rattle.dk_listing.specs.OfEvents.{stands_at, latest}
@@ -19,7 +17,6 @@ use Rattle.dk_snapshot.specs.declared.table.Snapshot.{Snapshot}
 use Rattle.dk_snapshot.specs.Asked.{version_asked}
 use Rattle.dk_snapshot.specs.Opening.{snapshot_with, state_read}
 use Rattle.dk_snapshot.specs.Steps.{commits_of_steps, oldest_path}
-use Rattle.dk_snapshot.specs.Support.{first_commit}
 
 -- ---- the base of a segment
 
@@ -28,17 +25,6 @@ use Rattle.dk_snapshot.specs.Support.{first_commit}
 abbrev pub BaseIsRead : List Told → Limits → Option CheckpointRef → Result (List Action) Refusal → Type 0
 BaseIsRead events limits None read = read ≡ Ok []
 BaseIsRead events limits (Some base) read = ⊥
-
--- the path of the oldest object: the first of the checkpoint's, or else that of the first step
-abbrev pub first_path : List (List ℕ) → List ℕ
-first_path [] = first_commit
-first_path (path ∷ paths) = path
-
-abbrev pub oldest_object : Option CheckpointRef → List Step → List ℕ
-oldest_object None walked = oldest_path walked
-oldest_object (Some (checkpoint.Classic version path)) walked = path
-oldest_object (Some (checkpoint.Parts version parts paths)) walked = first_path paths
-oldest_object (Some (checkpoint.V2 version path json)) walked = path
 
 -- ---- what is read from a segment
 
@@ -54,7 +40,7 @@ state_behind oldest now base (Err refusal) = Err refusal
 -- the version that is read from a segment whose base is read so
 abbrev pub opened_over : List Told → Limits → ℤ → ℕ → Segment → Result (List Action) Refusal → Result Snapshot Refusal
 opened_over events limits now version segment base =
-    snapshot_with version segment (state_behind (oldest_object segment.base segment.steps) now base (commits_of_steps events limits.object segment.steps))
+    snapshot_with version segment (state_behind (oldest_path segment) now base (commits_of_steps events limits.object segment.steps))
 
 abbrev pub OpensFrom : List Told → Limits → ℤ → ℕ → Segment → Result Snapshot Refusal → Type 0
 OpensFrom events limits now version segment result =

@@ -3,6 +3,9 @@ use Rattle.std.specs.Prelude.{ℕ, ◌≡◌, List, map, [], ◌∷◌, Option, 
 use Rattle.dk_store.specs.Told.{Told}
 use Rattle.dk_store.specs.Objects.{content}
 use Rattle.dk_model.specs.declared.action.Action.{Action}
+use Rattle.dk_lawful.specs.declared.segment.CheckpointRef.{CheckpointRef}
+use Rattle.dk_lawful.specs.declared.segment.CheckpointRef.TheVariants as checkpoint
+use Rattle.dk_lawful.specs.declared.segment.Segment.{Segment}
 use Rattle.dk_lawful.specs.declared.segment.Step.{Step}
 use Rattle.dk_lawful.specs.declared.segment.Step.TheVariants.{Commit, Compacted}
 use Rattle.dk_engine.specs.declared.limits.Which.TheVariants.{Object}
@@ -16,10 +19,26 @@ abbrev pub step_path : Step → List ℕ
 step_path (Commit version path) = path
 step_path (Compacted first last path) = path
 
--- the path of the oldest object; no version is read from none
-abbrev pub oldest_path : List Step → List ℕ
-oldest_path [] = first_commit
-oldest_path (step ∷ steps) = step_path step
+-- the path of the first step; where there is none a version would begin with the first commit
+abbrev pub first_step : List Step → List ℕ
+first_step [] = first_commit
+first_step (step ∷ steps) = step_path step
+
+-- the path of the first part; no checkpoint has none
+abbrev pub first_part : List (List ℕ) → List ℕ
+first_part [] = first_commit
+first_part (path ∷ paths) = path
+
+-- the path of the first object of what the steps go on from, or else that of the first step
+abbrev pub oldest_object : Option CheckpointRef → List Step → List ℕ
+oldest_object None steps = first_step steps
+oldest_object (Some (checkpoint.Classic version path)) steps = path
+oldest_object (Some (checkpoint.Parts version parts paths)) steps = first_part paths
+oldest_object (Some (checkpoint.V2 version path json)) steps = path
+
+-- the path of the oldest object of a segment
+abbrev pub oldest_path : Segment → List ℕ
+oldest_path segment = oldest_object segment.base segment.steps
 
 -- an object over the limit isn't read
 abbrev pub fits : ℕ → Option ℕ → Result (Unit {0}) Refusal

@@ -2,6 +2,7 @@
 ghost use Rattle.dk_snapshot.specs.KeptVersions.{NotKeptIsMissing, OpenedIsKept};
 ghost use Rattle.dk_snapshot.specs.LawfulOpens.{AboveIsNoVersion, EachAnswer, EmptyIsMissing, GapIsMissing, KeptIsAnswered, LatestIsLast, OpenedAgrees, OpenedHasCut, OpenedIsAsked, OpenedIsTable, UndeletedIsKept};
 ghost use Rattle.dk_snapshot.specs.Opens.{OpensAsOne, OpensAsSome};
+ghost use Rattle.dk_snapshot.specs.OldestExample.{ClassicIsOldest, CompactedIsOldest, PartIsOldest, PublishedIsOldest, StagedIsOldest, V2IsOldest};
 ghost use Rattle.dk_snapshot.specs.LatestVersion.{LatestIsGreatest, ListedIsGreatest};
 
 /// The latest version of a store's events, and so of a listing of them, is the greatest one that is published, stands
@@ -54,4 +55,15 @@ pub fn lawful_opens()
 
     // each answer and its cause
     ensures each { EachAnswer }
+{}
+
+/// The oldest object of a segment, row by row: without a checkpoint its first commit, published or staged, or its first compacted
+/// file; else the checkpoint's one object, or its first part (Delta Lake's PROTOCOL.md, "Checkpoints", "Log Compaction Files").
+pub fn oldest_objects()
+    ensures published { PublishedIsOldest }
+    ensures staged { StagedIsOldest }
+    ensures compacted { CompactedIsOldest }
+    ensures classic { ClassicIsOldest }
+    ensures part { PartIsOldest }
+    ensures v2 { V2IsOldest }
 {}

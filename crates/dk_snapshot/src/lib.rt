@@ -6,7 +6,10 @@
 mod asked;
 mod folding;
 pub mod laws;
+mod oldest;
 mod opening;
+mod options;
+mod sidecar_folder;
 mod sized_segment;
 mod sizes;
 mod steps;
@@ -15,9 +18,12 @@ mod surveying;
 mod table;
 mod usual;
 
+pub use oldest::{FIRST_COMMIT, oldest_path};
 pub use opening::{open_at, open_listed};
+pub use options::OpenOptions;
+pub use sidecar_folder::sidecar_sizes;
 pub use sizes::step_sizes;
-pub use steps::{oldest_path, read_step};
+pub use steps::{Measured, read_step};
 pub use support::unreadable;
 pub use surveying::survey;
 pub use table::Snapshot;

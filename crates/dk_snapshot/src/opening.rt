@@ -15,13 +15,15 @@ ghost use Rattle.dk_snapshot.specs.Steps.{AreSized};
 ghost use Rattle.dk_snapshot.specs.Support.{IsComplete};
 
 use crate::folding::fold_newest_first;
+use crate::oldest::oldest_path;
+use crate::options::OpenOptions;
 use crate::sized_segment::{SizedSegment, find_segment, take_segment};
-use crate::steps::{oldest_path, read_steps};
+use crate::steps::read_steps;
 use crate::support::cut_of;
 use crate::surveying::survey;
 use crate::table::Snapshot;
-use dk_engine::{JsonHandler, Limits, Refusal};
-use dk_lawful::{Choice, Segment};
+use dk_engine::{JsonHandler, Refusal};
+use dk_lawful::Segment;
 use dk_listing::Catalogued;
 use dk_model::{Action, TableState};
 use dk_store::Store;
@@ -53,20 +55,19 @@ fn read_segment(
     alloc: Global,
     store: &mut dyn Store,
     json: &mut dyn JsonHandler,
-    limits: Limits,
+    options: OpenOptions,
     sizes: &[Option<u64>],
     segment: &Segment,
-    now: i64,
 ) -> Result<(TableState, i64), Refusal>
     ensures reads { OnlyReads (seen store.old) (seen store.new) result }
     ensures refusals { IfErr result (OpenRefuses None) }
-    ensures means { IfTold (seen store.old) (λ events. AreSized events segment.now.steps sizes.now → AnswersMeant (λ read. read) result (read_of events limits now segment.now)) }
+    ensures means { IfTold (seen store.old) (λ events. AreSized events segment.now.steps sizes.now → AnswersMeant (λ read. read) result (read_of events options.limits options.now segment.now)) }
     ensures complete { IfOk result (λ read. IsComplete read.0) }
 {
     let steps = segment.steps.as_slice();
-    match read_steps(alloc, store, json, steps, sizes, limits.object) {
+    match read_steps(alloc, store, json, steps, sizes, options.limits.object) {
         Err(refusal) => Err(refusal),
-        Ok(newest_first) => state_of(alloc, newest_first, oldest_path(steps), now),
+        Ok(newest_first) => state_of(alloc, newest_first, oldest_path(segment), options.now),
     }
 }
 
@@ -94,13 +95,12 @@ fn read_sized(
     alloc: Global,
     store: &mut dyn Store,
     json: &mut dyn JsonHandler,
-    limits: Limits,
+    options: OpenOptions,
     sized_segment: SizedSegment,
-    now: i64,
 ) -> Result<Snapshot, Refusal>
     ensures reads { OnlyReads (seen store.old) (seen store.new) result }
     ensures refusals { IfErr result (OpenRefuses None) }
-    ensures means { IfTold (seen store.old) (λ events. AreSized events sized_segment.segment.steps sized_segment.sizes.items → AnswersMeant (λ snapshot. snapshot) result (opened_segment events limits now sized_segment.version sized_segment.segment)) }
+    ensures means { IfTold (seen store.old) (λ events. AreSized events sized_segment.segment.steps sized_segment.sizes.items → AnswersMeant (λ snapshot. snapshot) result (opened_segment events options.limits options.now sized_segment.version sized_segment.segment)) }
     ensures complete { IfOk result (λ snapshot. IsComplete snapshot.state) }
     ensures version { IfOk result (λ snapshot. snapshot.version ≡ sized_segment.version) }
 {
@@ -109,7 +109,7 @@ fn read_sized(
         segment,
         sizes,
     } = sized_segment;
-    let read = read_segment(alloc, store, json, limits, &sizes, &segment, now);
+    let read = read_segment(alloc, store, json, options, &sizes, &segment);
     snapshot_with(version, segment, read)
 }
 
@@ -119,22 +119,20 @@ pub fn open_listed(
     alloc: Global,
     store: &mut dyn Store,
     json: &mut dyn JsonHandler,
-    limits: Limits,
     listing: &Catalogued,
     at: Option<u64>,
-    choice: &Choice,
-    now: i64,
+    options: OpenOptions,
 ) -> Result<Snapshot, Refusal>
     ensures reads { OnlyReads (seen store.old) (seen store.new) result }
     ensures refusals { IfErr result (OpenRefuses at) }
-    ensures means { IfTold (seen store.old) (λ events. IsListingOf events listing.now → AnswersBy (λ snapshot. snapshot) result (Opens events limits at choice.now now)) }
+    ensures means { IfTold (seen store.old) (λ events. IsListingOf events listing.now → AnswersBy (λ snapshot. snapshot) result (Opens events options.limits at options.choice options.now)) }
     ensures complete { IfOk result (λ snapshot. IsComplete snapshot.state) }
     ensures latest { at ≡ None → IfOk result (λ snapshot. Some snapshot.version ≡ latest_of listing.now) }
     ensures small { IfOk result (λ snapshot. snapshot.version < 2 ^ 63) }
 {
-    match find_segment(alloc, listing, at, choice) {
+    match find_segment(alloc, listing, at, &options.choice) {
         Err(refusal) => Err(refusal),
-        Ok(sized_segment) => read_sized(alloc, store, json, limits, sized_segment, now),
+        Ok(sized_segment) => read_sized(alloc, store, json, options, sized_segment),
     }
 }
 
@@ -144,21 +142,19 @@ fn open_surveyed(
     alloc: Global,
     store: &mut dyn Store,
     json: &mut dyn JsonHandler,
-    limits: Limits,
     listing: Catalogued,
     at: Option<u64>,
-    choice: &Choice,
-    now: i64,
+    options: OpenOptions,
 ) -> Result<Snapshot, Refusal>
     ensures reads { OnlyReads (seen store.old) (seen store.new) result }
     ensures refusals { IfErr result (OpenRefuses at) }
-    ensures means { IfTold (seen store.old) (λ events. IsListingOf events listing → AnswersMeant (λ snapshot. snapshot) result (opened events limits at choice.now now)) }
+    ensures means { IfTold (seen store.old) (λ events. IsListingOf events listing → AnswersMeant (λ snapshot. snapshot) result (opened events options.limits at options.choice options.now)) }
     ensures complete { IfOk result (λ snapshot. IsComplete snapshot.state) }
     ensures small { IfOk result (λ snapshot. snapshot.version < 2 ^ 63) }
 {
-    match take_segment(alloc, listing, at, choice) {
+    match take_segment(alloc, listing, at, &options.choice) {
         Err(refusal) => Err(refusal),
-        Ok(sized_segment) => read_sized(alloc, store, json, limits, sized_segment, now),
+        Ok(sized_segment) => read_sized(alloc, store, json, options, sized_segment),
     }
 }
 
@@ -167,32 +163,29 @@ fn open_surveyed(
 /// staged commits and the catalogue once each, and reads each of the version's commits once, from the newest to the
 /// oldest, and nothing after that version.
 ///
-/// `now` is the moment of the call in milliseconds since 1970-01-01T00:00:00Z. Beside faults of the store and want of
-/// memory it is refused, in this order: `Missing` of version 0 where the log is empty, `NoVersion` where the asked version
-/// is above the latest, `Missing` of the first commit up to it that is absent, for the newest commit that can't be read
-/// `Limit` of `Object` where it is greater than `limits.object` bytes or else `Damaged` where it means nothing, `Damaged`
-/// of the oldest object, as a whole, where the table has no protocol or no metadata, and `Unsupported` of the
-/// first reader version or feature that isn't read, of deletion vectors, and of a retention of removed files that is no interval.
-/// Nothing else refuses it, whether the store tells its events or not.
+/// Beside faults of the store and want of memory it is refused, in this order: `Missing` of version 0 where the log is empty,
+/// `NoVersion` where the asked version is above the latest, `Missing` of the first commit up to it that is absent, for the newest
+/// commit that can't be read `Limit` of `Object` where it is greater than `options.limits.object` bytes or else `Damaged` where it
+/// means nothing, `Damaged` of the oldest object ([`crate::oldest_path`]), as a whole, where the table has no protocol or no
+/// metadata, and `Unsupported` of the first reader version or feature that isn't read, of deletion vectors, and of a retention of
+/// removed files that is no interval. Nothing else refuses it, whether the store tells its events or not.
 ///
 /// Over every store, also one that tells no events, the state that is answered has what writers of checkpoints need of it.
 pub fn open_at(
     alloc: Global,
     store: &mut dyn Store,
     json: &mut dyn JsonHandler,
-    limits: Limits,
     at: Option<u64>,
-    choice: &Choice,
-    now: i64,
+    options: OpenOptions,
 ) -> Result<Snapshot, Refusal>
     ensures reads { OnlyReads (seen store.old) (seen store.new) result }
     ensures refusals { IfErr result (OpenRefuses at) }
-    ensures means { IfTold (seen store.old) (λ events. AnswersBy (λ snapshot. snapshot) result (Opens events limits at choice.now now)) }
+    ensures means { IfTold (seen store.old) (λ events. AnswersBy (λ snapshot. snapshot) result (Opens events options.limits at options.choice options.now)) }
     ensures complete { IfOk result (λ snapshot. IsComplete snapshot.state) }
     ensures small { IfOk result (λ snapshot. snapshot.version < 2 ^ 63) }
 {
     match survey(alloc, store) {
         Err(refusal) => Err(refusal),
-        Ok(listing) => open_surveyed(alloc, store, json, limits, listing, at, choice, now),
+        Ok(listing) => open_surveyed(alloc, store, json, listing, at, options),
     }
 }

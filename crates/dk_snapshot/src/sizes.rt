@@ -68,7 +68,7 @@ fn behind<'a>(front: &str, text: &'a str) -> Option<&'a str>
     text.strip_prefix(front)
 }
 
-fn size_under<'a>(sizes: &BTreeMap<&'a str, u64>, name: &'a str) -> Option<u64>
+pub(crate) fn size_under<'a>(sizes: &BTreeMap<&'a str, u64>, name: &'a str) -> Option<u64>
     ensures { result ≡ size_under sizes.now name.now }
 {
     sizes.get(&name).copied()

@@ -11,10 +11,9 @@ ghost use Rattle.dk_listing.specs.Sizes.{stored_size};
 ghost use Rattle.dk_snapshot.specs.Effects.{changes_read};
 ghost use Rattle.dk_snapshot.specs.Log.{commit_of_object, meant};
 ghost use Rattle.dk_snapshot.specs.Refusals.{OpenRefuses, ReadRefuses};
-ghost use Rattle.dk_snapshot.specs.Steps.{AreSized, commit_at_path, commits_of_steps, fits, oldest_path, step_path};
+ghost use Rattle.dk_snapshot.specs.Steps.{AreSized, commit_at_path, commits_of_steps, fits, step_path};
 
 use crate::folding::gather;
-use crate::support::FIRST_COMMIT;
 use dk_engine::{JsonHandler, Refusal, Which};
 use dk_lawful::Step;
 use dk_model::{Action, Commit, LineFault, Text};
@@ -30,25 +29,21 @@ pub(crate) fn step_path(step: &Step) -> &str
     }
 }
 
-/// The path of the oldest object of a segment, by its steps in ascending order of versions; without steps that of the first
-/// commit. Takes no memory.
-pub fn oldest_path(steps: &[Step]) -> &str
-    ensures { result.now ≡ oldest_path steps.now }
-{
-    match steps.first() {
-        Some(step) => step_path(step),
-        None => FIRST_COMMIT,
-    }
+/// How great an object is by its listing, if one shows it, and how great it may be, both in bytes.
+#[derive(Clone, Copy)]
+pub struct Measured {
+    pub size: Option<u64>,
+    pub limit: u64,
 }
 
 /// An object over the limit isn't read.
-fn fits(limit: u64, size: Option<u64>) -> Result<(), Refusal>
-    ensures means { AnswersMeant (λ u. u) result (fits limit size) }
+fn fits(measured: Measured) -> Result<(), Refusal>
+    ensures means { AnswersMeant (λ u. u) result (fits measured.limit measured.size) }
     ensures store { result ≡ Err Refusal.Store → ⊥ }
     ensures refusals { IfErr result ReadRefuses }
 {
-    match size {
-        Some(size) if size > limit => Err(Refusal::Limit {
+    match measured.size {
+        Some(size) if size > measured.limit => Err(Refusal::Limit {
             which: Which::Object,
             value: size,
         }),
@@ -123,44 +118,41 @@ fn read_commit(
     read_object(alloc, json, path, object)
 }
 
-/// Reads the commit at a path whose listed size is this, where that is within the limit.
+/// Reads the commit at a path, where its listed size is within the limit.
 fn read_within(
     alloc: Global,
     store: &mut dyn Store,
     json: &mut dyn JsonHandler,
     path: &str,
-    size: Option<u64>,
-    limit: u64,
+    measured: Measured,
 ) -> Result<Commit, Refusal>
     ensures reads { OnlyReads (seen store.old) (seen store.new) result }
     ensures refusals { IfErr result ReadRefuses }
-    ensures means { IfTold (seen store.old) (λ events. size ≡ stored_size events path.now → AnswersMeant (λ commit. commit) result (commit_at_path events limit path.now)) }
+    ensures means { IfTold (seen store.old) (λ events. measured.size ≡ stored_size events path.now → AnswersMeant (λ commit. commit) result (commit_at_path events measured.limit path.now)) }
     ensures versions { IfOk result (λ commit. AllByRecursion HasVersionsInRange commit) }
 {
-    match fits(limit, size) {
+    match fits(measured) {
         Err(refusal) => Err(refusal),
         Ok(()) => read_commit(alloc, store, json, path),
     }
 }
 
-/// Reads the commit of a step, whose listed size in bytes is `size`, once (Delta Lake's PROTOCOL.md, "Delta Log Entries",
-/// "Actions"). Beside faults of the store and want of memory it is refused, in this order and by nothing else: `Limit` of
-/// `Object` where the size is over `limit`, in bytes, `Missing` where the object is absent, `Damaged` where it means nothing,
-/// with its first bad line.
+/// Reads the commit of a step, whose object is measured so, once (Delta Lake's PROTOCOL.md, "Delta Log Entries", "Actions").
+/// Beside faults of the store and want of memory it is refused, in this order and by nothing else: `Limit` of `Object` where the
+/// listed size is over the limit, `Missing` where the object is absent, `Damaged` where it means nothing, with its first bad line.
 pub fn read_step(
     alloc: Global,
     store: &mut dyn Store,
     json: &mut dyn JsonHandler,
     step: &Step,
-    size: Option<u64>,
-    limit: u64,
+    measured: Measured,
 ) -> Result<Commit, Refusal>
     ensures reads { OnlyReads (seen store.old) (seen store.new) result }
     ensures refusals { IfErr result ReadRefuses }
-    ensures means { IfTold (seen store.old) (λ events. size ≡ stored_size events (step_path step.now) → AnswersMeant (λ commit. commit) result (commit_at_path events limit (step_path step.now))) }
+    ensures means { IfTold (seen store.old) (λ events. measured.size ≡ stored_size events (step_path step.now) → AnswersMeant (λ commit. commit) result (commit_at_path events measured.limit (step_path step.now))) }
     ensures versions { IfOk result (λ commit. AllByRecursion HasVersionsInRange commit) }
 {
-    read_within(alloc, store, json, step_path(step), size, limit)
+    read_within(alloc, store, json, step_path(step), measured)
 }
 
 /// The size at a place of a list of sizes, if one is known.
@@ -191,7 +183,8 @@ pub(crate) fn read_steps(
     let mut found = Vec::new(alloc);
     for place in (0..steps.len()).rev() {
         let size = size_at(sizes, place);
-        match read_step(alloc, store, json, &steps[place], size, limit) {
+        let measured = Measured { size, limit };
+        match read_step(alloc, store, json, &steps[place], measured) {
             Ok(commit) => gather(&mut found, commit)?,
             Err(refusal) => return Err(refusal),
         }

@@ -13,9 +13,6 @@ use std::alloc::{AllocError, Global};
 /// The setting of how long removed files are told.
 const RETENTION_KEY: &str = "delta.deletedFileRetentionDuration";
 
-/// The path of the first commit.
-pub(crate) const FIRST_COMMIT: &str = "_delta_log/00000000000000000000.json";
-
 /// How long removed files are told where it isn't set, in milliseconds: one week.
 const USUAL_RETENTION: i128 = 604_800_000;
 

@@ -5,8 +5,8 @@ use dk_handlers::SerdeJson;
 use dk_listing::Catalogued;
 use dk_segment::find_commits;
 use dk_snapshot::{
-    Snapshot, oldest_path, open_at, open_listed, read_step, step_sizes, survey, unreadable,
-    usual_choice,
+    Measured, OpenOptions, Snapshot, oldest_path, open_at, open_listed, read_step, step_sizes,
+    survey, unreadable, usual_choice,
 };
 use dk_store::{MemStore, Store, StoreError};
 use std::alloc::{AllocError, Global};
@@ -45,7 +45,7 @@ fn compare(
     assert_eq!(rt; snapshot.version, 1);
     assert_eq!(rt; snapshot.cut, 0);
     assert_eq!(rt; steps.len(), 2);
-    assert_eq!(rt; oldest_path(steps), PATH_0);
+    assert_eq!(rt; oldest_path(&snapshot.segment), PATH_0);
     assert_eq!(rt; snapshot.state.files.len(), 1);
     let protocol = snapshot.state.protocol.as_ref();
     if let Some(protocol) = protocol {
@@ -67,8 +67,11 @@ fn compare_last(
     let sizes = step_sizes(alloc, listing, &steps)?;
     assert!(rt; sizes.as_slice() == [Some(ADD_A.len() as u64)].as_slice());
     let mut json = SerdeJson::new();
-    let size = Some(ADD_A.len() as u64);
-    match read_step(alloc, store, &mut json, &steps[0], size, 1000) {
+    let measured = Measured {
+        size: Some(ADD_A.len() as u64),
+        limit: 1000,
+    };
+    match read_step(alloc, store, &mut json, &steps[0], measured) {
         Ok(commit) => assert_eq!(rt; commit.as_slice().len(), 1),
         Err(_) => panic!(rt; "the last commit is read"),
     }
@@ -79,34 +82,20 @@ fn compare_last(
 fn a_store_is_surveyed_opened_and_read_commit_by_commit(rt: HostRuntime) -> Result<(), Fail> {
     let alloc = rt.alloc();
     let mut json = SerdeJson::new();
-    let limits = Limits::usual();
-    let week = 604_800_000;
+    let options = OpenOptions {
+        limits: Limits::usual(),
+        now: 604_800_000,
+        choice: usual_choice(),
+    };
     let Ok(mut store) = store_of(alloc) else {
         return Err(Fail::from(AllocError));
     };
-    let opened = open_at(
-        alloc,
-        &mut store,
-        &mut json,
-        limits,
-        None,
-        &usual_choice(),
-        week,
-    );
+    let opened = open_at(alloc, &mut store, &mut json, None, options);
     compare(&rt, alloc, opened)?;
     let Ok(listing) = survey(alloc, &mut store) else {
         return Err(Fail::from(AllocError));
     };
-    let opened = open_listed(
-        alloc,
-        &mut store,
-        &mut json,
-        limits,
-        &listing,
-        Some(1),
-        &usual_choice(),
-        week,
-    );
+    let opened = open_listed(alloc, &mut store, &mut json, &listing, Some(1), options);
     compare(&rt, alloc, opened)?;
     compare_last(&rt, alloc, &mut store, &listing)?;
     Ok(())

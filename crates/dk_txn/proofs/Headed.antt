@@ -32,16 +32,16 @@ module _ (events : List Told) (limits : Limits) (now : ℤ) (last : ℕ) (snapsh
   abbrev IsHeaded : Type 0
   IsHeaded = if_headed path snapshot.state.protocol snapshot.state.metadata ≡ Ok tt
 
-  cut_is : (segment : Segment) (state : TableState) (cut : Result ℤ Refusal) → cut_of (oldest_path segment.steps) state now ≡ cut → snapshot_with last segment (with_cut state cut) ≡ Ok snapshot → IsHeaded
+  cut_is : (segment : Segment) (state : TableState) (cut : Result ℤ Refusal) → cut_of (oldest_path segment) state now ≡ cut → snapshot_with last segment (with_cut state cut) ≡ Ok snapshot → IsHeaded
   cut_is segment state (Err refusal) is opens = absurd (let no : ◌≡◌ {A = Result Snapshot Refusal} (Err refusal) (Ok snapshot) = opens in cc)
   cut_is segment state (Ok cut) is opens =
       let same : ◌≡◌ {A = Result Snapshot Refusal} (Ok (record { version = last; state = state; cut = cut; segment = segment })) (Ok snapshot) = opens in
       let at : state ≡ snapshot.state = cc in
-      subst (λ (s : TableState). if_headed path s.protocol s.metadata ≡ Ok tt) at (cut_headed (oldest_path segment.steps) path state.protocol state.metadata state.files now cut is)
+      subst (λ (s : TableState). if_headed path s.protocol s.metadata ≡ Ok tt) at (cut_headed (oldest_path segment) path state.protocol state.metadata state.files now cut is)
 
-  commits_are : (segment : Segment) (commits : Result (List (List Action)) Refusal) → snapshot_with last segment (state_of_commits (oldest_path segment.steps) now commits) ≡ Ok snapshot → IsHeaded
+  commits_are : (segment : Segment) (commits : Result (List (List Action)) Refusal) → snapshot_with last segment (state_of_commits (oldest_path segment) now commits) ≡ Ok snapshot → IsHeaded
   commits_are segment (Err refusal) opens = absurd (let no : ◌≡◌ {A = Result Snapshot Refusal} (Err refusal) (Ok snapshot) = opens in cc)
-  commits_are segment (Ok commits) opens = cut_is segment (fold commits) (cut_of (oldest_path segment.steps) (fold commits) now) refl opens
+  commits_are segment (Ok commits) opens = cut_is segment (fold commits) (cut_of (oldest_path segment) (fold commits) now) refl opens
 
   segment_is : (found : Result Segment Refusal) → opened_chosen events limits now last found ≡ Ok snapshot → IsHeaded
   segment_is (Err refusal) opens = absurd (let no : ◌≡◌ {A = Result Snapshot Refusal} (Err refusal) (Ok snapshot) = opens in cc)

@@ -22,6 +22,7 @@ use Rattle.dk_lawful.specs.declared.segment.Step.{Step}
 use Rattle.dk_listing.specs.OfEvents.{latest}
 use Rattle.dk_snapshot.specs.declared.table.Snapshot.{Snapshot}
 use Rattle.dk_snapshot.specs.Steps.{oldest_path}
+use Rattle.dk_snapshot.specs.Support.{first_commit}
 use Rattle.dk_lawful.specs.History.{By_file}
 use Rattle.dk_txn.specs.declared.attempt.Writing as written
 use Rattle.dk_txn.specs.declared.commit.Committed.{Committed}
@@ -92,8 +93,8 @@ headed oldest from = if from.version == 0 then Ok tt else if_headed oldest from.
 
 -- the path of the oldest object that the snapshot was read from; without a snapshot that of the first commit
 abbrev pub oldest_of : Option Segment → List ℕ
-oldest_of None = oldest_path []
-oldest_of (Some segment) = oldest_path segment.steps
+oldest_of None = first_commit
+oldest_of (Some segment) = oldest_path segment
 
 abbrev pub unless_conflict : Option (ℕ × Kind) → Result (Unit {0}) Refusal
 unless_conflict None = Ok tt

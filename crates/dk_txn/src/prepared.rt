@@ -21,7 +21,7 @@ use dk_lawful::Segment;
 use dk_listing::Catalogued;
 use dk_model::{Kind, TableState, Text};
 use dk_paths::MAX_VERSION;
-use dk_snapshot::{oldest_path, survey};
+use dk_snapshot::{FIRST_COMMIT, oldest_path, survey};
 use dk_store::Store;
 use std::alloc::Global;
 
@@ -75,8 +75,8 @@ fn oldest_of(segment: &Option<Segment>) -> &str
     ensures { result.now ≡ oldest_of segment.now }
 {
     match segment {
-        Some(segment) => oldest_path(segment.steps.as_slice()),
-        None => oldest_path(&[]),
+        Some(segment) => oldest_path(segment),
+        None => FIRST_COMMIT,
     }
 }
 

@@ -13,7 +13,7 @@ use dk_engine::{JsonHandler, Refusal, Which};
 use dk_listing::Catalogued;
 use dk_model::TableState;
 use dk_paths::MAX_VERSION;
-use dk_snapshot::{Snapshot, open_listed, survey, usual_choice};
+use dk_snapshot::{OpenOptions, Snapshot, open_listed, survey, usual_choice};
 use dk_store::Store;
 use std::alloc::Global;
 
@@ -49,16 +49,12 @@ fn open_latest_listed(
         });
     }
     let choice = usual_choice();
-    match open_listed(
-        alloc,
-        store,
-        json,
-        options.limits,
-        listing,
-        None,
-        &choice,
-        options.now,
-    ) {
+    let opening = OpenOptions {
+        limits: options.limits,
+        now: options.now,
+        choice,
+    };
+    match open_listed(alloc, store, json, listing, None, opening) {
         Err(refusal) => Err(refusal),
         Ok(snapshot) => Ok(Some(snapshot)),
     }

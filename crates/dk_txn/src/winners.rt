@@ -24,7 +24,7 @@ use dk_lawful::Step;
 use dk_listing::Catalogued;
 use dk_model::{Action, Kind, TableState};
 use dk_segment::find_commits;
-use dk_snapshot::{read_step, step_sizes};
+use dk_snapshot::{Measured, read_step, step_sizes};
 use dk_store::Store;
 use std::alloc::Global;
 
@@ -171,7 +171,8 @@ pub(crate) fn read_winners(
     for place in 0..winners.steps.len() {
         let step = &winners.steps[place];
         let size = size_at(&winners.sizes, place);
-        match read_step(alloc, store, json, step, size, limit) {
+        let measured = Measured { size, limit };
+        match read_step(alloc, store, json, step, measured) {
             Err(refusal) => return Err(refusal),
             Ok(commit) => {
                 let version = winners.first + place as u64;

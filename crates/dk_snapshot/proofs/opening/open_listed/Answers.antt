@@ -1,6 +1,5 @@
-use Rattle.std.proofs.lemmas.Int.{to_z-of_z}
+use Rattle.std.proofs.Common.{refl}
 use Rattle.std.specs.Prelude.{Err}
-use mir.Syntax.{w64}
 use Rattle.dk_snapshot.specs.declared.table.Snapshot.{Snapshot}
 use Rattle.dk_snapshot.proofs.Opens.{opens_listed}
 use Rattle.dk_snapshot.proofs.Segments.{listed_refused, listed_opened}
@@ -9,14 +8,14 @@ use Rattle.dk_snapshot.proofs.opening.open_listed.Goals as goal
 
 pub returns-in-Err-clause-means : goal.returns-in-Err-clause-means
 returns-in-Err-clause-means g c =
-    opens_listed c.args.limits c.args.at c.args.choice.now c.args.now _ c.args.listing.now (Err c.in-Err.refusal)
-    (listed_refused _ c.args.listing.now c.args.limits c.args.at c.args.choice.now c.args.now c.in-Err.refusal c.in-Err.ensures.found)
+    opens_listed c.args.options.limits c.args.at c.args.options.choice c.args.options.now _ c.args.listing.now (Err c.in-Err.refusal)
+    (listed_refused _ c.args.listing.now c.args.options.limits c.args.at c.args.options.choice c.args.options.now c.in-Err.refusal c.in-Err.ensures.found)
 
 pub returns-in-Ok-clause-means : goal.returns-in-Ok-clause-means
 returns-in-Ok-clause-means g c =
-    opens_listed c.args.limits c.args.at c.args.choice.now c.args.now _ c.args.listing.now c.read_sized.result
-    (listed_opened {X = Snapshot} (λ snapshot. snapshot) _ c.args.listing.now c.args.limits c.args.at c.args.choice.now c.args.now _ c.in-Ok.sized_segment c.read_sized.result
-    (to_z-of_z w64 c.args.now c.ranges.now) c.in-Ok.ensures.found c.read_sized.ensures.means)
+    opens_listed c.args.options.limits c.args.at c.args.options.choice c.args.options.now _ c.args.listing.now c.read_sized.result
+    (listed_opened {X = Snapshot} (λ snapshot. snapshot) _ c.args.listing.now c.args.options.limits c.args.at c.args.options.choice c.args.options.now _ c.in-Ok.sized_segment c.read_sized.result
+    refl c.in-Ok.ensures.found c.read_sized.ensures.means)
 
 pub returns-in-Ok-clause-refusals : goal.returns-in-Ok-clause-refusals
 returns-in-Ok-clause-refusals g c = any_asked c.args.at c.read_sized.result c.read_sized.ensures.refusals

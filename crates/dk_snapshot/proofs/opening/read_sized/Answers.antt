@@ -1,13 +1,12 @@
-use Rattle.std.proofs.lemmas.Int.{to_z-of_z}
-use mir.Syntax.{w64}
+use Rattle.std.proofs.Common.{refl}
 use Rattle.dk_snapshot.proofs.Effects.{read_complete}
 use Rattle.dk_snapshot.proofs.Segments.{read_version, sized_read}
 use Rattle.dk_snapshot.proofs.opening.read_sized.Goals as goal
 
 pub returns-clause-means : goal.returns-clause-means
 returns-clause-means g c =
-    sized_read _ c.args.limits c.args.now _ c.args.sized_segment.version c.args.sized_segment.segment c.args.sized_segment.sizes.items c.deref.result.now c.read_segment-read.result c.snapshot_with.result
-    (to_z-of_z w64 c.args.now c.ranges.now) c.deref.ensures.value c.read_segment-read.ensures.means c.snapshot_with.ensures
+    sized_read _ c.args.options.limits c.args.options.now _ c.args.sized_segment.version c.args.sized_segment.segment c.args.sized_segment.sizes.items c.deref.result.now c.read_segment-read.result c.snapshot_with.result
+    refl c.deref.ensures.value c.read_segment-read.ensures.means c.snapshot_with.ensures
 
 pub returns-clause-version : goal.returns-clause-version
 returns-clause-version g c = read_version c.args.sized_segment.version c.args.sized_segment.segment c.read_segment-read.result c.snapshot_with.result c.snapshot_with.ensures
