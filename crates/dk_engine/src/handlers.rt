@@ -5,6 +5,7 @@ ghost use Rattle.dk_model.specs.CommitText.{reading_of};
 ghost use Rattle.dk_model.specs.LineFaults.{GivesLines};
 ghost use Rattle.dk_model.specs.ReadBack.{IsSound};
 ghost use Rattle.dk_model.specs.Written.{text_of};
+ghost use Rattle.dk_engine.specs.OwnFields.{MeansAlone};
 ghost use Rattle.dk_pqmodel.specs.FileMeans.{FileMeans};
 ghost use Rattle.dk_pqmodel.specs.Fits.{Fit};
 ghost use Rattle.dk_pqmodel.specs.Reads.{Reads};
@@ -45,9 +46,10 @@ pub trait ParquetHandler: Drop {
     ) -> Result<Vec<Row>, PqFault>
         ensures { Reads (fields_in wanted.now) bytes.now result };
 
-    /// The bytes of a file that holds the rows. They fit the schema, and weigh at most 1,073,741,824: 16 for each of their
-    /// cells at every depth, and the length of its text. The bytes are at most 1,024; for each node of the schema 1,024
-    /// and twice the lengths of the names on its path; for each entry of a column 64 and the length of its text.
+    /// The bytes of a file that holds the rows, and has the fields of the schema alone: one that is read by more finds
+    /// null there. The rows fit the schema, and weigh at most 1,073,741,824: 16 for each of their cells at every depth,
+    /// and the length of its text. The bytes are at most 1,024; for each node of the schema 1,024 and twice the lengths
+    /// of the names on its path; for each entry of a column 64 and the length of its text.
     fn write_rows(
         &mut self,
         alloc: Global,
@@ -57,5 +59,6 @@ pub trait ParquetHandler: Drop {
         requires fit { Fit (fields_in schema.now) (rows_of rows.now) }
         requires light { weight (rows_of rows.now) ≤ most_weight }
         ensures means { IfOk result (λ v. FileMeans (fields_in schema.now) v.items (rows_of rows.now)) }
+        ensures own { IfOk result (λ v. MeansAlone (fields_in schema.now) v.items (rows_of rows.now)) }
         ensures small { IfOk result (λ v. length v.items ≤ most_bytes (fields_in schema.now) (rows_of rows.now)) };
 }

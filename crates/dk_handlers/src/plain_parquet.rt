@@ -27,6 +27,7 @@ impl ParquetHandler for PlainParquet {
         read_rows(alloc, bytes, wanted)
     }
 
+    #[tactic(auto, using(crate::proofs::WrittenFields::means_alone))]
     fn write_rows(
         &mut self,
         alloc: Global,
