@@ -2,3 +2,5 @@ pub mod Holds
 pub mod RowFaults
 pub mod RowsReading
 pub mod Parts
+pub mod ActionRows
+pub mod WrittenRows
