@@ -8,7 +8,7 @@ use Rattle.dk_pqmodel.specs.FileSchema.{FileNodes, some_when}
 use Rattle.dk_pqmodel.specs.FileMeans.{columns_in, columns_of, one_if}
 use Rattle.dk_pqmodel.specs.Projection.{Path, Plan, missing, members, Plans, no_plans, one_plan, is_missing, all_missing, on_some, members_of, projection_named, projection_each, projected_field, projected_fields, unnamed_field, field_then, both_read, in_group, next_cell, widened, widened_each, rows_widened, misfit_unless, misfit_named, misfit_each}
 use Rattle.dk_lawful.specs.CheckpointSchema.{fields}
-use Rattle.dk_ckwrite.specs.ReadRows.{vectorless, first_vectorless, cells_vectorless, row_vectorless, rows_vectorless}
+use Rattle.dk_ckwrite.proofs.ReadRows.{vectorless, first_vectorless, cells_vectorless, row_vectorless, rows_vectorless}
 
 -- ---- the plans of its fields
 

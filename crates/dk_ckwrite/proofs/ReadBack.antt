@@ -18,7 +18,9 @@ use Rattle.dk_model.specs.declared.action_key.ActionKey.TheVariants as key
 use Rattle.dk_model.specs.ActionKeys.{name_of}
 use Rattle.dk_engine.specs.OwnFields.{are_named, HasOwnIn, HasOwnFields, MeansAlone}
 use Rattle.dk_lawful.specs.CheckpointSchema.{nullable_field, fields, keyed_group, add_group, vector_group, txn_group, remove_group, metadata_group, protocol_group, domain_group, checkpoint_group, sidecar_group, written_fields, read_fields}
-use Rattle.dk_ckwrite.specs.ReadRows.{rows_vectorless}
+use Rattle.dk_rowmap.specs.WrittenRows.{rows_read}
+use Rattle.dk_ckwrite.proofs.ReadRows.{rows_vectorless}
+use Rattle.dk_ckwrite.proofs.RowsRead.{rows_same}
 use Rattle.dk_ckwrite.proofs.OneMoreField.{Beside, and_missing, each_more, misfit_more, beside_when, fits_when, fields_same, columns_same, rows_beside}
 
 -- ---- a name that no field has
@@ -128,8 +130,8 @@ module _ (ns : FileNodes) (own : HasOwnFields written_fields ns) where
   columns_read : columns_of (projection read_fields ns) 0 0 ≡ columns_of (projection written_fields ns) 0 0
   columns_read = columns_same txn_plan narrow_plan wide_plan (projection_each others [] ns) beside
 
-  rows_read : (rows : Cells) → rows_widened (projection read_fields ns) rows ≡ option_map rows_vectorless (rows_widened (projection written_fields ns) rows)
-  rows_read rows = rows_beside txn_plan narrow_plan wide_plan (projection_each others [] ns) beside rows
+  rows_turned : (rows : Cells) → rows_widened (projection read_fields ns) rows ≡ option_map rows_vectorless (rows_widened (projection written_fields ns) rows)
+  rows_turned rows = rows_beside txn_plan narrow_plan wide_plan (projection_each others [] ns) beside rows
 
   fits_read : first_misfit written_fields ns ≡ None → first_misfit read_fields ns ≡ None
   fits_read h =
@@ -153,8 +155,8 @@ rows_by before one other columns cut (g ∷ gs) (s ∷ ss) h = (
 rows_by before one other columns cut (g ∷ gs) [] h = absurd h
 rows_by before one other columns cut [] (s ∷ ss) h = absurd h
 
-pub read_back : (bytes : List ℕ) (rows : Cells) → MeansAlone written_fields bytes rows → FileMeans read_fields bytes (rows_vectorless rows)
-read_back bytes rows alone =
+by_places : (bytes : List ℕ) (rows : Cells) → MeansAlone written_fields bytes rows → FileMeans read_fields bytes (rows_vectorless rows)
+by_places bytes rows alone =
     let file = alone.means in
     let ns = file.footer.fields in
     record {
@@ -167,5 +169,8 @@ read_back bytes rows alone =
       shares = file.shares;
       held = rows_by file.before (projection written_fields ns) (projection read_fields ns) (columns_read ns alone.own) (fields_read ns alone.own) file.footer.groups file.shares file.held;
       count = file.count;
-      widened = rows_read ns alone.own (all_rows file.shares) ∙ ap (option_map rows_vectorless) file.widened;
+      widened = rows_turned ns alone.own (all_rows file.shares) ∙ ap (option_map rows_vectorless) file.widened;
     }
+
+pub read_back : (bytes : List ℕ) (rows : Cells) → MeansAlone written_fields bytes rows → FileMeans read_fields bytes (rows_read rows)
+read_back bytes rows alone = subst (FileMeans read_fields bytes) (sym (rows_same rows)) (by_places bytes rows alone)

@@ -9,7 +9,9 @@ use Rattle.dk_model.specs.declared.action.Action.{Action}
 use Rattle.dk_model.specs.ActionObject.{action_of}
 use Rattle.dk_lawful.specs.CheckpointSchema.{read_fields}
 use Rattle.dk_lawful.specs.CheckpointRows.{is_vector_name, counted_cell, each_by, turned_group, counted, row_means, with_action, actions_of_rows}
-use Rattle.dk_ckwrite.specs.ReadRows.{vectorless, first_vectorless, cells_vectorless, row_vectorless, rows_vectorless}
+use Rattle.dk_rowmap.specs.WrittenRows.{rows_read}
+use Rattle.dk_ckwrite.proofs.RowsRead.{rows_same}
+use Rattle.dk_ckwrite.proofs.ReadRows.{vectorless, first_vectorless, cells_vectorless, row_vectorless, rows_vectorless}
 
 -- ---- a null cell behind the others
 
@@ -68,8 +70,11 @@ same_row : (row : Datum) → row_means (row_vectorless row) ≡ row_means row
 unfolding row_means
 same_row row = ap action_of (same_data read_fields row)
 
-pub same_actions : (rows : Cells) → actions_of_rows (rows_vectorless rows) ≡ actions_of_rows rows
-same_actions no_cells = refl
-same_actions (one_cell row rows) =
+by_places : (rows : Cells) → actions_of_rows (rows_vectorless rows) ≡ actions_of_rows rows
+by_places no_cells = refl
+by_places (one_cell row rows) =
     ap (λ (meant : Option (Option Action)). option_and_then (λ a. option_map (with_action a) (actions_of_rows (rows_vectorless rows))) meant) (same_row row)
-    ∙ ap (λ (rest : Option (List Action)). option_and_then (λ a. option_map (with_action a) rest) (row_means row)) (same_actions rows)
+    ∙ ap (λ (rest : Option (List Action)). option_and_then (λ a. option_map (with_action a) rest) (row_means row)) (by_places rows)
+
+pub same_actions : (rows : Cells) → actions_of_rows (rows_read rows) ≡ actions_of_rows rows
+same_actions rows = ap actions_of_rows (rows_same rows) ∙ by_places rows

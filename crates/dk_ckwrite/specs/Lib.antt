@@ -1,1 +1,1 @@
-pub mod ReadRows
+pub mod Files

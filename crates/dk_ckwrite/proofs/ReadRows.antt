@@ -1,5 +1,4 @@
--- The rows of a checkpoint as they are read back: by the schema that is read, which beside the fields that are written of an add has a
--- deletion vector.
+-- Rows as they are read back, by the places of their cells: an add has one more, its deletion vector, which is null.
 use Rattle.dk_pqmodel.specs.Datum.{Datum, null, atom, group, list, Cells, no_cells, one_cell, appended}
 
 -- an add that is there, with no vector
@@ -24,7 +23,6 @@ row_vectorless (atom v) = atom v
 row_vectorless (group cs) = group (cells_vectorless cs)
 row_vectorless (list cs) = list cs
 
--- rows of a checkpoint as they are read back: each add has a deletion vector, which is null
 abbrev pub rows_vectorless : Cells → Cells
 rows_vectorless no_cells = no_cells
 rows_vectorless (one_cell row rows) = one_cell (row_vectorless row) (rows_vectorless rows)
