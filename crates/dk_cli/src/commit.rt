@@ -1,12 +1,12 @@
 //! The command `commit`: the actions of the input become the next version.
 ghost use Rattle.std.specs.Prelude.{◌≡◌, ◌+◌, IfErr, IfSome};
 ghost use Rattle.dk_store.specs.Seen.{IfTold};
-ghost use Rattle.dk_engine.specs.Effects.{MayPut};
 ghost use Rattle.dk_engine.specs.Held.{held};
 ghost use Rattle.dk_engine.specs.Usual.{AreWithin};
 ghost use Rattle.dk_lawful.specs.Kept.{IfBoth, KeepsLawful};
 ghost use Rattle.dk_txn.specs.Attempt.{attempt};
-ghost use Rattle.dk_txn.specs.Commits.{Commits, SaysTransacted, TakenClashes};
+ghost use Rattle.dk_txn.specs.Commits.{Commits, SaysTransacted};
+ghost use Rattle.dk_txn.specs.Effects.{MayCommit};
 ghost use Rattle.dk_cli.specs.Actions.{actions_of, InputEnds, TakesActions};
 ghost use Rattle.dk_cli.specs.Commit.{CommitAnswers, CommitEnds, EndsTransacting, GivesLine, InputFirst, InputSays, InputTransacts, SaysCommitted, SaysOnce};
 ghost use Rattle.dk_cli.specs.Effects.{PutsInStore, ReadsSource, TakesFromSource, WritesToSink};
@@ -32,9 +32,7 @@ fn commit(
     intent: Intent,
     actions: Commit,
 ) -> Result<Committed, Refusal>
-    ensures puts { MayPut (seen (held engine.old.store)) (seen (held engine.new.store)) result }
-    ensures taken { IfErr result (TakenClashes None (seen (held engine.old.store)).clashes (seen (held engine.new.store)).clashes) }
-    ensures refusals { IfErr result CommitAtLatestRefuses }
+    ensures effects { MayCommit CommitAtLatestRefuses (seen (held engine.old.store)) (seen (held engine.new.store)) result }
     ensures commits { IfTold (seen (held engine.old.store)) (λ events. Commits (attempt events options.limits actions options.now intent.id) events result (seen (held engine.new.store)).told) }
     ensures transacts { Transacts options.limits options.now intent.reads actions intent.id (seen (held engine.old.store)).told result (seen (held engine.new.store)).told }
     ensures lawful { KeepsLawful (seen (held engine.old.store)).told (seen (held engine.new.store)).told }

@@ -187,7 +187,7 @@ fn fault_value(alloc: Global, status: &Status) -> Result<Option<Value>, AllocErr
     Ok(Some(value))
 }
 
-/// The answer object of a status as one compact line of JSON, without a newline; None for Done.
+/// The answer object of a status as one compact line of JSON, without a newline; None for Done. Refused by want of memory alone.
 pub fn fault_line(alloc: Global, status: &Status) -> Result<Option<String>, AllocError>
     ensures { IfOk result (λ line. option_map string_bytes line ≡ fault_text status.now) }
 {

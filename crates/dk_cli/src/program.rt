@@ -53,7 +53,8 @@ fn show_command<O: Sink>(
     }
 }
 
-/// All that the program does: carries out the command that the words say over the engine, and ends with a status.
+/// All that the program does: carries out the command that the words say over the engine, and ends with a status. `show` follows
+/// Delta Lake's PROTOCOL.md, "Action Reconciliation", and `commit` "Delta Log Entries" and "Commit Provenance Information" there.
 ///
 /// `now` is the moment of the call in milliseconds since 1970-01-01T00:00:00Z, and `base` the first of the ids that a
 /// command may draw. By now the commands are `show` with `--at V` or without, and `commit` with `--reads nothing` or

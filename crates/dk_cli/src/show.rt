@@ -1,11 +1,11 @@
 //! The command `show`: a version of the table, as text.
-ghost use Rattle.std.specs.Prelude.{◌≡◌, IfErr, IfOk};
+ghost use Rattle.std.specs.Prelude.{◌≡◌, IfOk};
 ghost use Rattle.dk_store.specs.Seen.{IfTold};
 ghost use Rattle.dk_engine.specs.Answers.{AnswersBy};
-ghost use Rattle.dk_engine.specs.Effects.{OnlyReads};
 ghost use Rattle.dk_engine.specs.Held.{held};
 ghost use Rattle.dk_snapshot.specs.Opens.{Opens};
 ghost use Rattle.dk_snapshot.specs.Refusals.{OpenRefuses};
+ghost use Rattle.dk_txn.specs.Effects.{OnlyChecks};
 ghost use Rattle.dk_cli.specs.Equipment.{KeepsEquipment};
 ghost use Rattle.dk_cli.specs.Show.{ShowsAs, text_of_snapshot};
 
@@ -30,9 +30,8 @@ fn open(
     choice: &Choice,
     now: i64,
 ) -> Result<Snapshot, Refusal>
-    ensures reads { OnlyReads (seen (held engine.old.store)) (seen (held engine.new.store)) result }
+    ensures effects { OnlyChecks (OpenRefuses at) (seen (held engine.old.store)) (seen (held engine.new.store)) result }
     ensures equipment { KeepsEquipment engine.old engine.new }
-    ensures refusals { IfErr result (OpenRefuses at) }
     ensures means { IfTold (seen (held engine.old.store)) (λ events. AnswersBy (λ snapshot. snapshot) result (Opens events engine.old.limits at choice.now now)) }
 {
     let options = OpenOptions {
@@ -51,9 +50,8 @@ pub(crate) fn show_text(
     choice: &Choice,
     now: i64,
 ) -> Result<Vec<u8>, Refusal>
-    ensures reads { OnlyReads (seen (held engine.old.store)) (seen (held engine.new.store)) result }
+    ensures effects { OnlyChecks (OpenRefuses at) (seen (held engine.old.store)) (seen (held engine.new.store)) result }
     ensures equipment { KeepsEquipment engine.old engine.new }
-    ensures refusals { IfErr result (OpenRefuses at) }
     ensures means { IfTold (seen (held engine.old.store)) (λ events. AnswersBy (λ text. text.items) result (ShowsAs events engine.old.limits at choice.now now)) }
 {
     match open(alloc, engine, at, choice, now) {

@@ -1,5 +1,6 @@
 pub mod Attempt
 pub mod Commits
+pub mod Effects
 pub mod Starts
 pub mod WinnerLaws
 pub mod FitLaws

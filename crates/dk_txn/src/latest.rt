@@ -1,10 +1,10 @@
 //! A commit that begins at the latest version.
-ghost use Rattle.std.specs.Prelude.{IfErr, ◌≡◌, ◌<◌, ◌^◌, ◌++◌, Ok, None, IfOk, OnOk};
+ghost use Rattle.std.specs.Prelude.{◌≡◌, ◌<◌, ◌^◌, ◌++◌, Ok, IfOk, OnOk};
 ghost use Rattle.dk_store.specs.Seen.{IfTold};
-ghost use Rattle.dk_engine.specs.Effects.{MayPut};
 ghost use Rattle.dk_lawful.specs.Kept.{IfBoth, KeepsLawful};
 ghost use Rattle.dk_txn.specs.Attempt.{attempt, start};
-ghost use Rattle.dk_txn.specs.Commits.{Commits, SaysTransacted, TakenClashes};
+ghost use Rattle.dk_txn.specs.Commits.{Commits, SaysTransacted};
+ghost use Rattle.dk_txn.specs.Effects.{MayCommit};
 ghost use Rattle.dk_txn.specs.Transactions.{Concludes, Transacts, outcome};
 ghost use Rattle.dk_txn.specs.Refusals.{CommitAtLatestRefuses, TransactionRefuses};
 
@@ -51,9 +51,7 @@ fn commit_fresh(
     ensures commits { IfTold (seen store.old) (λ events. start events options.limits options.now ≡ Ok fresh.now.from
         → Commits (attempt events options.limits fresh.now.actions.items options.now fresh.now.id) events result (seen store.new).told) }
     ensures concludes { IfTold (seen store.old) (λ events. Concludes (outcome events options.limits fresh.now options.now) events result (seen store.new).told) }
-    ensures puts { MayPut (seen store.old) (seen store.new) result }
-    ensures refusals { IfErr result TransactionRefuses }
-    ensures taken { IfErr result (TakenClashes None (seen store.old).clashes (seen store.new).clashes) }
+    ensures effects { MayCommit TransactionRefuses (seen store.old) (seen store.new) result }
     ensures lawful { IfTold (seen store.old) (λ events. start events options.limits options.now ≡ Ok fresh.now.from) → KeepsLawful (seen store.old).told (seen store.new).told }
     ensures history { IfTold (seen store.old) (λ events. start events options.limits options.now ≡ Ok fresh.now.from)
         → IfBoth (seen store.old).told (seen store.new).told (SaysTransacted options.now fresh.now.id fresh.now.actions.items result) }
@@ -80,9 +78,7 @@ pub fn commit_at_latest(
     actions: Commit,
 ) -> Result<Committed, Refusal>
     ensures commits { IfTold (seen store.old) (λ events. Commits (attempt events options.limits actions options.now intent.id) events result (seen store.new).told) }
-    ensures puts { MayPut (seen store.old) (seen store.new) result }
-    ensures refusals { IfErr result CommitAtLatestRefuses }
-    ensures taken { IfErr result (TakenClashes None (seen store.old).clashes (seen store.new).clashes) }
+    ensures effects { MayCommit CommitAtLatestRefuses (seen store.old) (seen store.new) result }
     ensures transacts { Transacts options.limits options.now intent.reads actions intent.id (seen store.old).told result (seen store.new).told }
 
     // In the subject's own words.

@@ -13,7 +13,8 @@ pub fn winners_are_the_history()
 
 /// What a transaction that stands to a lawful log as it should is to write is the next version of the history: the rules hold
 /// there, and none of the commits since its snapshot is in its way. What it commits, as the law of the log has it at the moment of
-/// the call, is the line of its id and its actions, as long as tables whose commits say their times are refused by name.
+/// the call, is the line of its id and its actions, as long as tables whose commits say their times are refused by name (Delta
+/// Lake's PROTOCOL.md, "Delta Log Entries", "Commit Provenance Information").
 pub fn fit_transactions_come_next()
     ensures next { FitIsNext }
     ensures standing { StandingIsNext }
@@ -21,7 +22,8 @@ pub fn fit_transactions_come_next()
     ensures transacted { AttemptsAreTransacted }
 {}
 
-/// What a transaction comes after that begins at the latest version is what that version may open as, and one value.
+/// What a transaction comes after that begins at the latest version is what that version may open as, and one value (Delta Lake's
+/// PROTOCOL.md, "Delta Log Entries", "Action Reconciliation").
 pub fn transactions_start_as_one()
     ensures some { StartsAsSome }
     ensures one { StartsAsOne }

@@ -1,13 +1,13 @@
 //! What a commit of a transaction comes to.
-ghost use Rattle.std.specs.Prelude.{IfErr, ◌≡◌, ◌≤◌, ◌<◌, ◌+◌, ◌^◌, IfOk, length};
+ghost use Rattle.std.specs.Prelude.{◌≡◌, ◌≤◌, ◌<◌, ◌+◌, ◌^◌, IfOk, length};
 ghost use Rattle.dk_store.specs.Seen.{IfTold};
-ghost use Rattle.dk_engine.specs.Effects.{OnlyReads};
 ghost use Rattle.std.specs.Option.{ForSome};
 ghost use Rattle.dk_engine.specs.Answers.{AnswersMeant};
 ghost use Rattle.dk_listing.specs.OfEvents.{IsListingOf};
 ghost use Rattle.dk_snapshot.specs.Steps.{AreSized};
 ghost use Rattle.dk_txn.specs.Transactions.{IsSmall, ReadsBack, headed, may_come, next_from, oldest_of, outcome, outcome_after, prepared_as, reached_as, reached_by_steps, rules_keep, to_write, unless_conflict, version_of_outcome, writing_at};
 ghost use Rattle.dk_txn.specs.Refusals.{CheckRefuses, TestsOnly};
+ghost use Rattle.dk_txn.specs.Effects.{OnlyChecks};
 
 use crate::attempt::{Writing, check, within};
 use crate::options::CommitOptions;
@@ -177,8 +177,7 @@ fn reach(
     winners: &Winners,
 ) -> Result<Reached, Refusal>
     requires { winners.now.first + length winners.now.steps.items ≤ 2 ^ 63 }
-    ensures reads { OnlyReads (seen store.old) (seen store.new) result }
-    ensures refusals { IfErr result CheckRefuses }
+    ensures effects { OnlyChecks CheckRefuses (seen store.old) (seen store.new) result }
     ensures means { IfTold (seen store.old) (λ events. AreSized events winners.now.steps.items winners.now.sizes.items
         → AnswersMeant reached_as result (reached_by_steps events limit transaction.now winners.now.first winners.now.steps.items)) }
 {
@@ -207,8 +206,7 @@ fn prepare_after(
 ) -> Result<Prepared, Refusal>
     requires room { winners.now.first + length winners.now.steps.items ≤ 2 ^ 63 }
     requires small { winners.now.next < 2 ^ 63 }
-    ensures reads { OnlyReads (seen store.old) (seen store.new) result }
-    ensures refusals { IfErr result CheckRefuses }
+    ensures effects { OnlyChecks CheckRefuses (seen store.old) (seen store.new) result }
     ensures means { IfTold (seen store.old) (λ events. AreSized events winners.now.steps.items winners.now.sizes.items
         → AnswersMeant prepared_as result (outcome_after transaction.now options.limits options.now winners.now.next
         (reached_by_steps events options.limits.object transaction.now winners.now.first winners.now.steps.items))) }
@@ -244,8 +242,7 @@ fn prepare_listed(
     transaction: &Transaction,
     listing: &Catalogued,
 ) -> Result<Prepared, Refusal>
-    ensures reads { OnlyReads (seen store.old) (seen store.new) result }
-    ensures refusals { IfErr result CheckRefuses }
+    ensures effects { OnlyChecks CheckRefuses (seen store.old) (seen store.new) result }
     ensures means { IfTold (seen store.old) (λ events. IsListingOf events listing.now → AnswersMeant prepared_as result (outcome events options.limits transaction.now options.now)) }
     ensures reads_back { IfOk result (ReadsBack transaction.now.id transaction.now.actions.items) }
     ensures small { IfOk result IsSmall }
@@ -275,8 +272,7 @@ pub(crate) fn prepare(
     options: CommitOptions,
     transaction: &Transaction,
 ) -> Result<Prepared, Refusal>
-    ensures reads { OnlyReads (seen store.old) (seen store.new) result }
-    ensures refusals { IfErr result CheckRefuses }
+    ensures effects { OnlyChecks CheckRefuses (seen store.old) (seen store.new) result }
     ensures means { IfTold (seen store.old) (λ events. AnswersMeant prepared_as result (outcome events options.limits transaction.now options.now)) }
     ensures reads_back { IfOk result (ReadsBack transaction.now.id transaction.now.actions.items) }
     ensures small { IfOk result IsSmall }

@@ -1,11 +1,11 @@
 //! What a commit comes after.
-ghost use Rattle.std.specs.Prelude.{IfErr, ◌<◌, ◌^◌, ◌+◌, Err, IfOk};
+ghost use Rattle.std.specs.Prelude.{◌<◌, ◌^◌, ◌+◌, Err, IfOk};
 ghost use Rattle.dk_store.specs.Seen.{IfTold};
-ghost use Rattle.dk_engine.specs.Effects.{OnlyReads};
 ghost use Rattle.std.specs.Option.{ForSome};
 ghost use Rattle.dk_engine.specs.Answers.{AnswersMeant};
 ghost use Rattle.dk_listing.specs.OfEvents.{IsListingOf};
 ghost use Rattle.dk_txn.specs.Attempt.{start, start_of};
+ghost use Rattle.dk_txn.specs.Effects.{OnlyChecks};
 ghost use Rattle.dk_txn.specs.Refusals.{BeginRefuses};
 
 use crate::options::CommitOptions;
@@ -34,8 +34,7 @@ fn open_latest_listed(
     options: CommitOptions,
     listing: &Catalogued,
 ) -> Result<Option<Snapshot>, Refusal>
-    ensures reads { OnlyReads (seen store.old) (seen store.new) result }
-    ensures refusals { IfErr result BeginRefuses }
+    ensures effects { OnlyChecks BeginRefuses (seen store.old) (seen store.new) result }
     ensures means { IfTold (seen store.old) (λ events. IsListingOf events listing.now → AnswersMeant start_of result (start events options.limits options.now)) }
     ensures small { IfOk result (λ snapshot. ForSome snapshot (λ s. s.version + 1 < 2 ^ 63)) }
 {
@@ -68,8 +67,7 @@ pub(crate) fn open_latest(
     json: &mut dyn JsonHandler,
     options: CommitOptions,
 ) -> Result<Option<Snapshot>, Refusal>
-    ensures reads { OnlyReads (seen store.old) (seen store.new) result }
-    ensures refusals { IfErr result BeginRefuses }
+    ensures effects { OnlyChecks BeginRefuses (seen store.old) (seen store.new) result }
     ensures means { IfTold (seen store.old) (λ events. AnswersMeant start_of result (start events options.limits options.now)) }
     ensures small { IfOk result (λ snapshot. ForSome snapshot (λ s. s.version + 1 < 2 ^ 63)) }
 {

@@ -1,12 +1,13 @@
 //! Transactions: what was read of a table, and what is to be committed to it.
 ghost use Rattle.std.specs.Prelude.{IfErr, ◌≡◌, ◌<◌, ◌^◌, ◌++◌, ◌∷◌, [], Ok, Some, None, IfOk, IfSome, OnOk, OnErr, is_some, option_map, true};
 ghost use Rattle.dk_store.specs.Seen.{IfTold};
-ghost use Rattle.dk_engine.specs.Effects.{MayPut, OnlyReads};
+ghost use Rattle.dk_engine.specs.Effects.{MayPut};
 ghost use Rattle.std.specs.Option.{ForSome};
 ghost use Rattle.dk_engine.specs.Answers.{AnswersMeant, AnswersBy};
 ghost use Rattle.dk_lawful.specs.Kept.{IfBoth, KeepsLawful};
 ghost use Rattle.dk_txn.specs.Attempt.{own_commit, start, start_of};
-ghost use Rattle.dk_txn.specs.Commits.{CountsClash, TakenClashes, was_taken};
+ghost use Rattle.dk_txn.specs.Commits.{CountsClash, was_taken};
+ghost use Rattle.dk_txn.specs.Effects.{MayCommit, OnlyChecks};
 ghost use Rattle.dk_txn.specs.Starts.{StartsAs};
 ghost use Rattle.dk_txn.specs.TransactionHistory.{SaysFrom, SaysOwn, StaysLawfulFrom};
 ghost use Rattle.dk_txn.specs.Transactions.{Begins, Comes, Concludes, ConcludesHistory, IsNew, Remembers, outcome, version_meant};
@@ -124,9 +125,7 @@ pub(crate) fn commit_with_retry(
     transaction: &Transaction,
 ) -> Result<Committed, Refusal>
     ensures commits { IfTold (seen store.old) (λ events. Concludes (outcome events options.limits transaction.now options.now) events result (seen store.new).told) }
-    ensures puts { MayPut (seen store.old) (seen store.new) result }
-    ensures refusals { IfErr result TransactionRefuses }
-    ensures taken { IfErr result (TakenClashes None (seen store.old).clashes (seen store.new).clashes) }
+    ensures effects { MayCommit TransactionRefuses (seen store.old) (seen store.new) result }
     ensures lawful { IfTold (seen store.old) (λ events. Comes (outcome events options.limits transaction.now options.now) (own_commit transaction.now.id transaction.now.actions.items) events) → KeepsLawful (seen store.old).told (seen store.new).told }
     ensures history { IfTold (seen store.old) (λ events. Comes (outcome events options.limits transaction.now options.now) (own_commit transaction.now.id transaction.now.actions.items) events)
         → IfBoth (seen store.old).told (seen store.new).told (λ events later. ConcludesHistory (outcome events options.limits transaction.now options.now) (own_commit transaction.now.id transaction.now.actions.items) result events later) }
@@ -173,8 +172,7 @@ impl Transaction {
         options: CommitOptions,
         intent: Intent,
     ) -> Result<Transaction, Refusal>
-        ensures reads { OnlyReads (seen store.old) (seen store.new) result }
-        ensures refusals { IfErr result BeginRefuses }
+        ensures effects { OnlyChecks BeginRefuses (seen store.old) (seen store.new) result }
         ensures means { IfTold (seen store.old) (λ events. AnswersMeant (λ t. t.from) result (start events options.limits options.now)) }
         ensures opens { IfTold (seen store.old) (λ events. AnswersBy (λ t. t.from) result (StartsAs events options.limits options.now)) }
         ensures new { IfOk result (IsNew intent.reads intent.id) }
@@ -212,8 +210,7 @@ impl Transaction {
         json: &mut dyn JsonHandler,
         options: CommitOptions,
     ) -> Result<u64, Refusal>
-        ensures reads { OnlyReads (seen store.old) (seen store.new) result }
-        ensures refusals { IfErr result CheckRefuses }
+        ensures effects { OnlyChecks CheckRefuses (seen store.old) (seen store.new) result }
         ensures means { IfTold (seen store.old) (λ events. AnswersMeant (λ version. version) result (version_meant (outcome events options.limits self.now options.now))) }
     {
         match prepare(alloc, store, json, options, self) {
@@ -256,9 +253,7 @@ impl Transaction {
         ensures commits { self.old.committed ≡ None
             → IfTold (seen store.old) (λ events. Concludes (outcome events options.limits self.old options.now) events result (seen store.new).told) }
         ensures remembers { Remembers self.old result self.new }
-        ensures puts { MayPut (seen store.old) (seen store.new) result }
-        ensures refusals { IfErr result TransactionRefuses }
-        ensures taken { IfErr result (TakenClashes None (seen store.old).clashes (seen store.new).clashes) }
+        ensures effects { MayCommit TransactionRefuses (seen store.old) (seen store.new) result }
         ensures lawful { self.old.committed ≡ None → IfBoth (seen store.old).told (seen store.new).told (StaysLawfulFrom self.old) }
         ensures history { self.old.committed ≡ None
             → IfBoth (seen store.old).told (seen store.new).told (SaysFrom self.old options.now (λ events. outcome events options.limits self.old options.now) result) }

@@ -5,7 +5,7 @@ use Rattle.dk_cli.proofs.Once.{done_once, refused_once}
 use Rattle.dk_cli.proofs.commit.commit_actions.Goals as goal
 
 pub returns-in-Err-clause-puts : goal.returns-in-Err-clause-puts
-returns-in-Err-clause-puts g c = refused_puts _ _ c.in-Err.refusal c.in-Err.ensures.puts c.in-Err.ensures.taken
+returns-in-Err-clause-puts g c = refused_puts _ _ c.in-Err.refusal c.in-Err.ensures.effects.puts c.in-Err.ensures.effects.taken
 
 pub returns-in-Ok-clause-answer : goal.returns-in-Ok-clause-answer
 returns-in-Ok-clause-answer g c =

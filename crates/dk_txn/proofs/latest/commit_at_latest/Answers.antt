@@ -11,19 +11,19 @@ pub returns-in-Ok-with_actions-clause-commits : goal.returns-in-Ok-with_actions-
 returns-in-Ok-with_actions-clause-commits g c =
     latest_commits c.args.options.limits c.args.options.now _ c.in-Ok.begun c.in-Ok-with_actions.transaction c.args.actions c.args.intent.id refl
     (ap (λ (t : Transaction). t.from) c.in-Ok-with_actions.ensures.same) (filled_items c.in-Ok.begun c.in-Ok-with_actions.transaction c.args.actions c.in-Ok.ensures.new.actions c.in-Ok-with_actions.ensures.laid) (ap (λ (t : Transaction). t.id) c.in-Ok-with_actions.ensures.same ∙ c.in-Ok.ensures.new.id)
-    _ _ _ c.commit_fresh.result c.in-Ok.ensures.reads.same c.in-Ok.ensures.means c.commit_fresh.ensures.commits
+    _ _ _ c.commit_fresh.result c.in-Ok.ensures.effects.reads.same c.in-Ok.ensures.means c.commit_fresh.ensures.commits
 
 pub returns-in-Ok-with_actions-clause-lawful : goal.returns-in-Ok-with_actions-clause-lawful
 returns-in-Ok-with_actions-clause-lawful g c =
     latest_lawful c.args.options.limits c.args.options.now _ c.in-Ok.begun c.in-Ok-with_actions.transaction c.args.actions c.args.intent.id refl
     (ap (λ (t : Transaction). t.from) c.in-Ok-with_actions.ensures.same) (filled_items c.in-Ok.begun c.in-Ok-with_actions.transaction c.args.actions c.in-Ok.ensures.new.actions c.in-Ok-with_actions.ensures.laid) (ap (λ (t : Transaction). t.id) c.in-Ok-with_actions.ensures.same ∙ c.in-Ok.ensures.new.id)
-    _ _ _ c.in-Ok.ensures.reads.same c.in-Ok.ensures.means c.commit_fresh.ensures.lawful
+    _ _ _ c.in-Ok.ensures.effects.reads.same c.in-Ok.ensures.means c.commit_fresh.ensures.lawful
 
 pub returns-in-Ok-with_actions-clause-history : goal.returns-in-Ok-with_actions-clause-history
 returns-in-Ok-with_actions-clause-history g c =
     latest_says c.args.options.limits c.args.options.now _ c.in-Ok.begun c.in-Ok-with_actions.transaction c.args.actions c.args.intent.id refl
     (ap (λ (t : Transaction). t.from) c.in-Ok-with_actions.ensures.same) (filled_items c.in-Ok.begun c.in-Ok-with_actions.transaction c.args.actions c.in-Ok.ensures.new.actions c.in-Ok-with_actions.ensures.laid) (ap (λ (t : Transaction). t.id) c.in-Ok-with_actions.ensures.same ∙ c.in-Ok.ensures.new.id)
-    _ _ _ c.commit_fresh.result c.in-Ok.ensures.reads.same c.in-Ok.ensures.means c.commit_fresh.ensures.history
+    _ _ _ c.commit_fresh.result c.in-Ok.ensures.effects.reads.same c.in-Ok.ensures.means c.commit_fresh.ensures.history
 
 pub returns-in-Ok-with_actions-clause-transacts : goal.returns-in-Ok-with_actions-clause-transacts
 returns-in-Ok-with_actions-clause-transacts g c =
@@ -32,22 +32,18 @@ returns-in-Ok-with_actions-clause-transacts g c =
     (ap (λ (t : Transaction). t.id) c.in-Ok-with_actions.ensures.same ∙ c.in-Ok.ensures.new.id)
     c.args.intent.reads _ _ _ c.commit_fresh.result (ap (λ (t : Transaction). t.reads) c.in-Ok-with_actions.ensures.same ∙ c.in-Ok.ensures.new.reads)
     (ap (λ (t : Transaction). t.committed) c.in-Ok-with_actions.ensures.same ∙ c.in-Ok.ensures.new.committed)
-    c.in-Ok.ensures.reads.same c.in-Ok.ensures.means c.commit_fresh.ensures.concludes
+    c.in-Ok.ensures.effects.reads.same c.in-Ok.ensures.means c.commit_fresh.ensures.concludes
 
-pub returns-in-Err-clause-refusals : goal.returns-in-Err-clause-refusals
-returns-in-Err-clause-refusals g c = begin_in_one c.in-Err.refusal c.in-Err.ensures.refusals
+pub returns-in-Err-clause-effects : goal.returns-in-Err-clause-effects
+returns-in-Err-clause-effects g c = record {
+  puts = refused_puts {X = Transaction} {Y = Committed} _ _ c.in-Err.refusal c.in-Err.ensures.effects.reads;
+  refusals = begin_in_one c.in-Err.refusal c.in-Err.ensures.effects.refusals;
+  taken = begins_untaken c.in-Err.refusal _ _ c.in-Err.ensures.effects.refusals;
+}
 
-pub returns-in-Ok-with_actions-clause-refusals : goal.returns-in-Ok-with_actions-clause-refusals
-returns-in-Ok-with_actions-clause-refusals g c = commit_in_one c.commit_fresh.result c.commit_fresh.ensures.refusals
-
-pub returns-in-Err-clause-puts : goal.returns-in-Err-clause-puts
-returns-in-Err-clause-puts g c = refused_puts {X = Transaction} {Y = Committed} _ _ c.in-Err.refusal c.in-Err.ensures.reads
-
-pub returns-in-Ok-with_actions-clause-puts : goal.returns-in-Ok-with_actions-clause-puts
-returns-in-Ok-with_actions-clause-puts g c = puts_after_reads {X = Transaction} {Y = Committed} _ _ _ _ c.commit_fresh.result c.in-Ok.ensures.reads c.commit_fresh.ensures.puts
-
-pub returns-in-Err-clause-taken : goal.returns-in-Err-clause-taken
-returns-in-Err-clause-taken g c = begins_untaken c.in-Err.refusal _ _ c.in-Err.ensures.refusals
-
-pub returns-in-Ok-with_actions-clause-taken : goal.returns-in-Ok-with_actions-clause-taken
-returns-in-Ok-with_actions-clause-taken g c = taken_from c.commit_fresh.result _ _ _ c.in-Ok.ensures.reads.clashes_same c.commit_fresh.ensures.taken
+pub returns-in-Ok-with_actions-clause-effects : goal.returns-in-Ok-with_actions-clause-effects
+returns-in-Ok-with_actions-clause-effects g c = record {
+  puts = puts_after_reads {X = Transaction} {Y = Committed} _ _ _ _ c.commit_fresh.result c.in-Ok.ensures.effects.reads c.commit_fresh.ensures.effects.puts;
+  refusals = commit_in_one c.commit_fresh.result c.commit_fresh.ensures.effects.refusals;
+  taken = taken_from c.commit_fresh.result _ _ _ c.in-Ok.ensures.effects.reads.clashes_same c.commit_fresh.ensures.effects.taken;
+}

@@ -1,4 +1,4 @@
-use Rattle.std.proofs.Common.{refl}
+use Rattle.std.proofs.Common.{refl, rules}
 use Rattle.dk_txn.specs.declared.prepared.Prepared.{Prepared}
 use Rattle.dk_txn.specs.Transactions.{prepared_as}
 use Rattle.dk_txn.proofs.Refusals.{survey_checks}
@@ -13,5 +13,5 @@ returns-in-Ok-clause-means g c =
     survey_found {X = Prepared} prepared_as _ _ c.args.options.limits c.args.transaction.now c.args.options.now _ c.in-Ok.listing c.prepare_listed.result refl
     c.in-Ok.ensures.reads.same c.in-Ok.ensures.found c.prepare_listed.ensures.means
 
-pub returns-in-Err-clause-refusals : goal.returns-in-Err-clause-refusals
-returns-in-Err-clause-refusals g c = survey_checks c.in-Err.refusal c.in-Err.ensures.refusals
+pub returns-in-Err-clause-effects : goal.returns-in-Err-clause-effects
+returns-in-Err-clause-effects g c = record { reads = search rules; refusals = survey_checks c.in-Err.refusal c.in-Err.ensures.refusals }

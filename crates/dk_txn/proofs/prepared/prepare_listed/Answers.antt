@@ -27,5 +27,5 @@ returns-in-Ok-clause-means g c =
     (winners_next {X = Prepared} prepared_as _ c.args.listing.now c.args.options.limits c.args.transaction.now c.args.options.now _ c.next_after-next.result c.in-Ok.winners c.prepare_after.result refl
     c.in-Ok.ensures.ends c.in-Ok.ensures.found c.prepare_after.ensures.means)
 
-pub returns-in-Err-clause-refusals : goal.returns-in-Err-clause-refusals
-returns-in-Err-clause-refusals g c = choose_is_gone c.in-Err.refusal c.gone.result c.gone.ensures c.in-Err.ensures.refusals
+pub returns-in-Err-clause-effects : goal.returns-in-Err-clause-effects
+returns-in-Err-clause-effects g c = record { reads = search rules; refusals = choose_is_gone c.in-Err.refusal c.gone.result c.gone.ensures c.in-Err.ensures.refusals }

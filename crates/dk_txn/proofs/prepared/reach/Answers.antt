@@ -1,4 +1,4 @@
-use Rattle.std.proofs.Common.{ap, ◌∙◌}
+use Rattle.std.proofs.Common.{ap, rules, ◌∙◌}
 use Rattle.dk_txn.specs.Transactions.{reached_view, At_own, After}
 use Rattle.dk_txn.specs.declared.winners.Found.{Found}
 use Rattle.dk_txn.proofs.Refusals.{read_is_gone}
@@ -25,5 +25,5 @@ returns-clause-means g c =
     (ap (λ (f : Found). reached_view c.read_winners.new.state f) c.in-Ok-Others.field-0-is)
     (c.in-Ok-Others.ensures.means c.args.transaction.now.reads c.deref.result.now c.in_ok-claims.ensures)
 
-pub returns-in-Err-clause-refusals : goal.returns-in-Err-clause-refusals
-returns-in-Err-clause-refusals g c = read_is_gone c.in-Err.refusal c.gone.result c.gone.ensures c.in-Err.ensures.refusals
+pub returns-in-Err-clause-effects : goal.returns-in-Err-clause-effects
+returns-in-Err-clause-effects g c = record { reads = search rules; refusals = read_is_gone c.in-Err.refusal c.gone.result c.gone.ensures c.in-Err.ensures.refusals }

@@ -23,5 +23,5 @@ pub returns-in-Ok-clause-means : goal.returns-in-Ok-clause-means
 returns-in-Ok-clause-means g c = start_opened c.args.options.limits c.args.options.now c.args.listing.now c.latest.result c.latest.ensures.value _ c.usual_choice-choice.result _ c.in-Some.latest c.in-Ok.snapshot (start_of (Some c.in-Ok.snapshot)) c.usual_choice-choice.ensures
     (to_z-of_z w64 c.args.options.now (search rules)) c.in-Some.is (search rules) refl refl (opened_listed c.args.options.limits None c.usual_choice-choice.result _ _ c.args.listing.now (Ok c.in-Ok.snapshot) c.in-Ok.ensures.means)
 
-pub returns-in-Err-clause-refusals : goal.returns-in-Err-clause-refusals
-returns-in-Err-clause-refusals g c = open_begins c.in-Err.refusal c.in-Err.ensures.refusals
+pub returns-in-Err-clause-effects : goal.returns-in-Err-clause-effects
+returns-in-Err-clause-effects g c = record { reads = search rules; refusals = open_begins c.in-Err.refusal c.in-Err.ensures.refusals }

@@ -23,15 +23,15 @@ returns-then-was_taken-clause-history g c = λ comes.
     let was : was_taken c.attempt_commit-answer.result ≡ true = search rules in
     never_both _ _ _ (clash_never _ _ c.args.options.limits c.args.transaction.now _ c.attempt_commit-answer.result _ was c.attempt_commit-answer.ensures.commits) (grows_alike _ _ (grows_on _ _ _ c.attempt_commit-answer.ensures.puts.grows c.attempt_commit.ensures.puts.grows))
 
-pub returns-then-was_taken-clause-taken : goal.returns-then-was_taken-clause-taken
-returns-then-was_taken-clause-taken g c =
-    let was : was_taken c.attempt_commit-answer.result ≡ true = search rules in
-    taken_again c.attempt_commit-answer.result c.attempt_commit.result _ _ _ was c.attempt_commit-answer.ensures.clash c.attempt_commit.ensures.clash
+pub returns-then-was_taken-clause-effects : goal.returns-then-was_taken-clause-effects
+returns-then-was_taken-clause-effects g c =
+    let was : was_taken c.attempt_commit-answer.result ≡ true = search rules in record {
+      puts = puts_twice {X = Committed} {Y = Committed} _ _ _ c.attempt_commit-answer.result c.attempt_commit.result c.attempt_commit-answer.ensures.puts c.attempt_commit.ensures.puts;
+      refusals = c.attempt_commit.ensures.refusals;
+      taken = taken_again c.attempt_commit-answer.result c.attempt_commit.result _ _ _ was c.attempt_commit-answer.ensures.clash c.attempt_commit.ensures.clash;
+    }
 
-pub returns-else-was_taken-clause-taken : goal.returns-else-was_taken-clause-taken
-returns-else-was_taken-clause-taken g c =
+pub returns-else-was_taken-clause-effects : goal.returns-else-was_taken-clause-effects
+returns-else-was_taken-clause-effects g c =
     let was : was_taken c.attempt_commit-answer.result ≡ false = search rules in
-    never_taken c.attempt_commit-answer.result _ _ was
-
-pub returns-then-was_taken-clause-puts : goal.returns-then-was_taken-clause-puts
-returns-then-was_taken-clause-puts g c = puts_twice {X = Committed} {Y = Committed} _ _ _ c.attempt_commit-answer.result c.attempt_commit.result c.attempt_commit-answer.ensures.puts c.attempt_commit.ensures.puts
+    record { puts = c.attempt_commit-answer.ensures.puts; refusals = c.attempt_commit-answer.ensures.refusals; taken = never_taken c.attempt_commit-answer.result _ _ was }
