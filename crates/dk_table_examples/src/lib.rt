@@ -1,7 +1,9 @@
-//! Worked listings and a worked store, by the calls that open a version, as tables of cases. What is wanted was written by
-//! hand from the rules of the format, never taken from the program's own output.
+//! Worked listings and worked stores, by the calls that open a version and write its checkpoint. What is wanted was written
+//! by hand from the rules of the format, never taken from the program's own output.
 #![tactic(auto)]
 
+#[cfg(test)]
+mod checkpoints;
 #[cfg(test)]
 mod listings;
 #[cfg(test)]
