@@ -20,7 +20,8 @@ use Rattle.dk_engine.specs.declared.refusal.Refusal.TheVariants.{Damaged, Unsupp
 use Rattle.dk_snapshot.specs.declared.table.Snapshot.{Snapshot}
 use Rattle.dk_snapshot.specs.Asked.{version_asked}
 use Rattle.dk_snapshot.specs.Opening.{snapshot_with, with_cut}
-use Rattle.dk_snapshot.specs.Opens.{BaseIsRead, state_behind, OpensChosen, OpensAsked, Opens}
+use Rattle.dk_snapshot.specs.Bases.{BaseIsRead}
+use Rattle.dk_snapshot.specs.Opens.{state_behind, OpensChosen, OpensAsked, Opens}
 use Rattle.dk_snapshot.specs.Steps.{commits_of_steps, oldest_path}
 use Rattle.dk_snapshot.specs.Support.{has_vectors, unreadable, retention_key, retention, cut_before, cut_unless, cut_with, cut_of}
 use Rattle.dk_cli.specs.ShownHistory.{IsFoldOf, IsReadWithCut}

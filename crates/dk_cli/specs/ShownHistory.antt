@@ -23,7 +23,7 @@ use Rattle.dk_engine.specs.declared.limits.Which.TheVariants.{Object}
 use Rattle.dk_engine.specs.declared.refusal.Refusal.{Refusal}
 use Rattle.dk_engine.specs.declared.refusal.Refusal.TheVariants as refusals
 use Rattle.dk_snapshot.specs.LawfulOpens.{AsksVersion, IsKeptBy, segment_by, RefusesTable, AreWithinLimit, IsNewestOver}
-use Rattle.dk_snapshot.specs.Opens.{BaseIsRead}
+use Rattle.dk_snapshot.specs.Bases.{BaseIsRead}
 use Rattle.dk_snapshot.specs.Steps.{commits_of_steps}
 use Rattle.dk_snapshot.specs.Support.{IsRead, cut_before}
 use Rattle.dk_cli.specs.Shown.{shown}

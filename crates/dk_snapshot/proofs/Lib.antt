@@ -2,6 +2,7 @@ pub mod Greatest
 pub mod History
 pub mod SizeMaps
 pub mod Sidecars
+pub mod BaseExample
 pub mod StepReads
 pub mod Segments
 pub mod FromListing

@@ -9,6 +9,8 @@ pub mod Sizes
 pub mod Sidecars
 pub mod Steps
 pub mod OldestExample
+pub mod Bases
+pub mod BaseExample
 pub mod Opening
 pub mod Opens
 pub mod Effects

@@ -1,12 +1,11 @@
 -- What a version of the table may open as, by the events of the store: a relation with one value, since what a checkpoint means is one
 -- (Delta Lake's PROTOCOL.md, "Delta Log Entries", "Checkpoints", "Action Reconciliation").
-use Rattle.std.specs.Prelude.{ℕ, ℤ, ◌≡◌, List, [], Option, Some, None, Result, Ok, Err}
+use Rattle.std.specs.Prelude.{ℕ, ℤ, ◌≡◌, List, Option, Result, Ok, Err}
 use Rattle.dk_store.specs.Told.{Told}
 use Rattle.dk_store.specs.Standings.{standing}
 use Rattle.dk_model.specs.declared.action.Action.{Action}
 use Rattle.dk_model.specs.declared.state.TableState.{TableState}
 use Rattle.dk_model.specs.State.{empty_state, steps, steps_of_all}
-use Rattle.dk_lawful.specs.declared.segment.CheckpointRef.{CheckpointRef}
 use Rattle.dk_lawful.specs.declared.segment.Choice.{Choice}
 use Rattle.dk_lawful.specs.declared.segment.Segment.{Segment}
 use Rattle.dk_engine.specs.declared.limits.Limits.{Limits}
@@ -15,16 +14,9 @@ use Rattle.dk_listing.specs.OfEvents.{stands_at, latest}
 use Rattle.dk_segment.specs.Chosen.{chosen}
 use Rattle.dk_snapshot.specs.declared.table.Snapshot.{Snapshot}
 use Rattle.dk_snapshot.specs.Asked.{version_asked}
+use Rattle.dk_snapshot.specs.Bases.{BaseIsRead}
 use Rattle.dk_snapshot.specs.Opening.{snapshot_with, state_read}
 use Rattle.dk_snapshot.specs.Steps.{commits_of_steps, oldest_path}
-
--- ---- the base of a segment
-
--- What the checkpoint that a segment goes on from is read as; without one there are no actions. So far no segment has one, so nothing is
--- said of what one is read as.
-abbrev pub BaseIsRead : List Told → Limits → Option CheckpointRef → Result (List Action) Refusal → Type 0
-BaseIsRead events limits None read = read ≡ Ok []
-BaseIsRead events limits (Some base) read = ⊥
 
 -- ---- what is read from a segment
 

@@ -1,8 +1,9 @@
 //! Laws of what a version is, over the events of a store. None of these functions does anything when it runs.
+ghost use Rattle.dk_snapshot.specs.BaseExample.{AbsentIsMissing, BadLineIsNamed, CodecIsNamed, EarlierPartIsFirst, EncodingIsNamed, GreatIsOver, LackingSidecarIsMissing, MarkedTwiceIsDamaged, MisnamingIsDamaged, TextForFileIsDamaged, UnmarkedIsDamaged, WholeIsRead};
 ghost use Rattle.dk_snapshot.specs.KeptVersions.{NotKeptIsMissing, OpenedIsKept};
 ghost use Rattle.dk_snapshot.specs.LawfulOpens.{AboveIsNoVersion, EachAnswer, EmptyIsMissing, GapIsMissing, KeptIsAnswered, LatestIsLast, OpenedAgrees, OpenedHasCut, OpenedIsAsked, OpenedIsTable, UndeletedIsKept};
 ghost use Rattle.dk_snapshot.specs.Opens.{OpensAsOne, OpensAsSome};
-ghost use Rattle.dk_snapshot.specs.OldestExample.{ClassicIsOldest, CompactedIsOldest, PartIsOldest, PublishedIsOldest, StagedIsOldest, V2IsOldest};
+ghost use Rattle.dk_snapshot.specs.OldestExample.{ClassicIsOldest, CommitIsOldest, CompactedIsOldest, PartIsOldest, V2IsOldest};
 ghost use Rattle.dk_snapshot.specs.LatestVersion.{LatestIsGreatest, ListedIsGreatest};
 
 /// The latest version of a store's events, and so of a listing of them, is the greatest one that is published, stands
@@ -57,13 +58,37 @@ pub fn lawful_opens()
     ensures each { EachAnswer }
 {}
 
-/// The oldest object of a segment, row by row: without a checkpoint its first commit, published or staged, or its first compacted
-/// file; else the checkpoint's one object, or its first part (Delta Lake's PROTOCOL.md, "Checkpoints", "Log Compaction Files").
+/// The oldest object of a segment, row by row: without a checkpoint its first commit or compacted file, else the checkpoint's one
+/// object or its first part (Delta Lake's PROTOCOL.md, "Checkpoints", "Log Compaction Files").
 pub fn oldest_objects()
-    ensures published { PublishedIsOldest }
-    ensures staged { StagedIsOldest }
+    ensures commit { CommitIsOldest }
     ensures compacted { CompactedIsOldest }
     ensures classic { ClassicIsOldest }
     ensures part { PartIsOldest }
     ensures v2 { V2IsOldest }
+{}
+
+/// What the checkpoint that a segment goes on from is read as, row by row (Delta Lake's PROTOCOL.md, "V2 Spec", "Sidecar Files",
+/// "Multi-part checkpoint"; Apache Parquet, parquet.thrift). One in JSON means its lines, where it says its version once and each
+/// sidecar that it names stands. Of the objects, and then of the sidecars, the first that can't be read refuses it: over the limit
+/// by its size, absent, damaged at a line or as a whole, or compressed or encoded in a way that isn't read.
+pub fn bases_are_read()
+    ensures whole { WholeIsRead }
+
+    // the object, or a part
+    ensures absent { AbsentIsMissing }
+    ensures great { GreatIsOver }
+    ensures part { EarlierPartIsFirst }
+
+    // in JSON
+    ensures line { BadLineIsNamed }
+    ensures unmarked { UnmarkedIsDamaged }
+    ensures marked_twice { MarkedTwiceIsDamaged }
+    ensures misnaming { MisnamingIsDamaged }
+    ensures sidecar { LackingSidecarIsMissing }
+
+    // in Parquet
+    ensures text { TextForFileIsDamaged }
+    ensures codec { CodecIsNamed }
+    ensures encoding { EncodingIsNamed }
 {}
