@@ -1,5 +1,5 @@
 -- What an object answers, put together from what its file and its rows do.
-use Rattle.std.proofs.Common.{inl, inr, List, refl}
+use Rattle.std.proofs.Common.{◌≡◌, inl, inr, List, refl, sym, subst}
 use Rattle.std.specs.Prelude.{ℕ, Result, Ok, Err}
 use Rattle.dk_model.specs.declared.action.Action.{Action}
 use Rattle.dk_pqmodel.specs.Datum.{Cells}
@@ -11,7 +11,7 @@ use Rattle.dk_lawful.specs.CheckpointSchema.{read_fields}
 use Rattle.dk_pqmodel.specs.Reads.{Reads}
 use Rattle.dk_pqmodel.specs.declared.fault.PqFault.{PqFault}
 use Rattle.dk_pqmodel.specs.declared.fault.PqFault.TheVariants as faults
-use Rattle.dk_ckread.specs.Reading.{FileRefused, refusal_by, FileAnswers, RowsAnswer, ObjectAnswers}
+use Rattle.dk_ckread.specs.Reading.{FileRefused, refusal_by, FileAnswers, RowsAnswer, ObjectAnswers, ReadCheckpointRefuses, ReadsGot}
 
 -- a refusal of a part, where the whole hands it on
 pub refused_by : {X Y Z W : Type 0} (view : X → Y) (other : Z → W) (Part : Result Y Refusal → Type 0) (Whole : Result W Refusal → Type 0)
@@ -41,6 +41,30 @@ file_answers view path bytes faults.NotParquet reads = (faults.NotParquet, reads
 file_answers view path bytes (faults.Shape column) reads = (faults.Shape column, reads, refl)
 file_answers view path bytes (faults.Compressed column codec) reads = (faults.Compressed column codec, reads, refl)
 file_answers view path bytes (faults.Encoding column code) reads = (faults.Encoding column code, reads, refl)
+
+never_store : {X : Type 0} (path : List ℕ) (fault : PqFault) → ◌≡◌ {A = Result X Refusal} (Err (refusal_by path fault)) (Err refusals.Store) → ⊥
+never_store path faults.OutOfMemory is = cc
+never_store path faults.Broken is = cc
+never_store path faults.NotParquet is = cc
+never_store path (faults.Shape column) is = cc
+never_store path (faults.Compressed column codec) is = cc
+never_store path (faults.Encoding column code) is = cc
+
+refuses_so : (path : List ℕ) (fault : PqFault) → ReadCheckpointRefuses (refusal_by path fault)
+refuses_so path faults.OutOfMemory = tt
+refuses_so path faults.Broken = tt
+refuses_so path faults.NotParquet = tt
+refuses_so path (faults.Shape column) = tt
+refuses_so path (faults.Compressed column codec) = tt
+refuses_so path (faults.Encoding column code) = tt
+
+pub file_got : {X : Type 0} (view : X → Cells) (path bytes : List ℕ) (fault : PqFault) (refusal : Refusal) → refusal ≡ refusal_by path fault → Reads read_fields bytes (Err fault)
+    → ReadsGot {X = X} view (Err refusal) (FileAnswers path bytes)
+file_got {X = X} view path bytes fault refusal is reads = subst (λ (r : Refusal). ReadsGot {X = X} view (Err r) (FileAnswers path bytes)) (sym is) (record {
+  meant = file_answers view path bytes fault reads;
+  store = never_store {X = X} path fault;
+  refusals = refuses_so path fault;
+})
 
 -- and back
 pub reads_so : (bytes : List ℕ) (fault : PqFault) → FileRefused bytes fault → Reads read_fields bytes (Err fault)

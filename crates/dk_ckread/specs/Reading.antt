@@ -1,5 +1,5 @@
 -- What reading a checkpoint in one object answers (Delta Lake's PROTOCOL.md, "Checkpoints"; Apache Parquet, parquet.thrift).
-use Rattle.std.specs.Prelude.{◌≡◌, ℕ, ◌⊎◌, Bool, true, false, nat_lt, List, Option, Some, None, Result, Ok, Err}
+use Rattle.std.specs.Prelude.{◌≡◌, ℕ, ◌⊎◌, Bool, true, false, nat_lt, List, Option, Some, None, Result, Ok, Err, IfErr}
 use Rattle.std.specs.List.{list_any}
 use Rattle.dk_model.specs.declared.action.Action.{Action}
 use Rattle.dk_model.specs.declared.action.Action.TheVariants as action
@@ -14,6 +14,7 @@ use Rattle.dk_pqmodel.specs.declared.fault.PqFault.TheVariants as faults
 use Rattle.dk_lawful.specs.CheckpointRows.{actions_of_rows}
 use Rattle.dk_lawful.specs.CheckpointSchema.{read_fields}
 use Rattle.dk_lawful.specs.Checkpoints.{InParquet}
+use Rattle.dk_engine.specs.Answers.{AnswersBy}
 use Rattle.dk_engine.specs.declared.limits.Which.TheVariants.{Object}
 use Rattle.dk_engine.specs.declared.refusal.Refusal.{Refusal}
 use Rattle.dk_engine.specs.declared.refusal.Refusal.TheVariants as refusals
@@ -89,3 +90,11 @@ ReadCheckpointRefuses (refusals.Damaged path place) = Unit {0}
 ReadCheckpointRefuses (refusals.Limit which value) = Unit {0}
 ReadCheckpointRefuses refusals.OutOfMemory = Unit {0}
 ReadCheckpointRefuses _ = ⊥
+
+-- ---- what is read of an object that was got
+
+-- It is what is meant, with the refusals of reading a checkpoint. The store isn't asked, so it refuses nothing.
+pub record ReadsGot {X Y : Type 0} (view : X → Y) (result : Result X Refusal) (means : Result Y Refusal → Type 0) : Type 0 where
+  pub meant : AnswersBy view result means
+  pub store : result ≡ Err refusals.Store → ⊥
+  pub refusals : IfErr result ReadCheckpointRefuses

@@ -40,7 +40,7 @@ pub fn segments_agree()
 {}
 
 /// What is written of a checkpoint in one object, with its sidecars, may be made, by the state that was opened at its published
-/// version and a cut of at most the horizon.
+/// version and a cut of at most the horizon (Delta Lake's PROTOCOL.md, "Checkpoints").
 pub fn contents_may_be_made()
     ensures classic { ClassicMayBeMade }
     ensures v2 { V2MayBeMade }
@@ -75,8 +75,8 @@ pub fn versions_stay_kept()
 {}
 
 /// Parts in Parquet that may not come: one that has another part's share, one of a version that isn't published, and one that
-/// names a sidecar. And a
-/// checkpoint of the form V2 that would be whole, but that its sidecar has other rows than those of files.
+/// names a sidecar. And a checkpoint of the form V2 that would be whole, but that its sidecar has other rows than those of files
+/// (Delta Lake's PROTOCOL.md, "Multi-part checkpoint", "V2 Spec").
 pub fn forbidden_parts()
     ensures other_share { IsForbidden (first_part example) (Made (place_path (Part 1 2 2)) head_file (pos 3)) }
     ensures beyond { IsForbidden example (Made (place_path (Part 2 1 2)) head_file (pos 3)) }

@@ -1,5 +1,5 @@
 //! Reading a checkpoint.
-ghost use Rattle.std.specs.Prelude.{◌≡◌, Err, IfErr, IfOk, IfSome, option_map};
+ghost use Rattle.std.specs.Prelude.{◌≡◌, IfErr, IfOk, IfSome, option_map};
 ghost use Rattle.std.specs.List.{list_any};
 ghost use Rattle.dk_store.specs.Seen.{IfTold, StoreReads};
 ghost use Rattle.dk_store.specs.Objects.{content};
@@ -7,7 +7,7 @@ ghost use Rattle.dk_pqmodel.specs.RowView.{rows_of};
 ghost use Rattle.dk_engine.specs.Answers.{AnswersBy};
 ghost use Rattle.dk_engine.specs.Effects.{OnlyReads};
 ghost use Rattle.dk_listing.specs.Sizes.{stored_size};
-ghost use Rattle.dk_ckread.specs.Reading.{ClassicAnswers, FileAnswers, FoundAnswers, ObjectAnswers, ReadCheckpointRefuses, RowsAnswer, is_sidecar};
+ghost use Rattle.dk_ckread.specs.Reading.{ClassicAnswers, FileAnswers, FoundAnswers, ObjectAnswers, ReadCheckpointRefuses, ReadsGot, RowsAnswer, is_sidecar};
 
 use crate::fault::{damaged, refusal_by};
 use dk_engine::{ParquetHandler, Refusal, Which};
@@ -18,16 +18,13 @@ use dk_store::{Store, StoreError};
 use std::alloc::Global;
 
 /// The rows of a file at the path, of the fields that are read of checkpoints.
-#[tactic(auto, using(crate::proofs::Answers::file_answers))]
 fn read_rows(
     alloc: Global,
     parquet: &mut dyn ParquetHandler,
     path: &str,
     bytes: &[u8],
 ) -> Result<Vec<Row>, Refusal>
-    ensures means { AnswersBy (λ rows. rows_of rows.items) result (FileAnswers path.now bytes.now) }
-    ensures store { result ≡ Err Refusal.Store → ⊥ }
-    ensures refusals { IfErr result ReadCheckpointRefuses }
+    ensures { ReadsGot (λ rows. rows_of rows.items) result (FileAnswers path.now bytes.now) }
 {
     let wanted = read_schema(alloc)?;
     match parquet.read_rows(alloc, bytes, &wanted) {
@@ -59,9 +56,7 @@ fn has_sidecar(actions: &[Action]) -> bool
 
 /// The actions of the rows of the object at the path.
 fn actions_in(alloc: Global, path: &str, rows: &[Row]) -> Result<Vec<Action>, Refusal>
-    ensures means { AnswersBy (λ actions. actions.items) result (RowsAnswer path.now (rows_of rows.now)) }
-    ensures store { result ≡ Err Refusal.Store → ⊥ }
-    ensures refusals { IfErr result ReadCheckpointRefuses }
+    ensures { ReadsGot (λ actions. actions.items) result (RowsAnswer path.now (rows_of rows.now)) }
 {
     let actions = match actions_of_rows(alloc, rows) {
         Ok(actions) => actions,
@@ -82,9 +77,7 @@ fn read_bytes(
     path: &str,
     bytes: &[u8],
 ) -> Result<Vec<Action>, Refusal>
-    ensures means { AnswersBy (λ actions. actions.items) result (ObjectAnswers path.now bytes.now) }
-    ensures store { result ≡ Err Refusal.Store → ⊥ }
-    ensures refusals { IfErr result ReadCheckpointRefuses }
+    ensures { ReadsGot (λ actions. actions.items) result (ObjectAnswers path.now bytes.now) }
 {
     let rows = read_rows(alloc, parquet, path, bytes)?;
     actions_in(alloc, path, &rows)
@@ -97,9 +90,7 @@ fn read_object(
     path: &str,
     object: Option<Vec<u8>>,
 ) -> Result<Vec<Action>, Refusal>
-    ensures means { AnswersBy (λ actions. actions.items) result (FoundAnswers path.now (option_map (λ bytes. bytes.items) object)) }
-    ensures store { result ≡ Err Refusal.Store → ⊥ }
-    ensures refusals { IfErr result ReadCheckpointRefuses }
+    ensures { ReadsGot (λ actions. actions.items) result (FoundAnswers path.now (option_map (λ bytes. bytes.items) object)) }
 {
     match object {
         Some(bytes) => read_bytes(alloc, parquet, path, &bytes),
