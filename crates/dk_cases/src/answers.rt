@@ -3,6 +3,7 @@
 use crate::actions::{hex_answer, own_answer, text_answer, value_answer};
 use crate::conflicts::conflict_answer;
 use crate::features::{force_answer, keeps_answer, support_answer};
+use crate::hints::hint_answer;
 use crate::names::{
     commit_answer, interval_answer, name_answer, own_sidecar_answer, sidecar_answer, staged_answer,
 };
@@ -22,6 +23,7 @@ fn named_answer(alloc: Global, call: &str, text: &str) -> Result<String, Trouble
         "interval" => interval_answer(alloc, text),
         "text" => text_answer(alloc, text),
         "hex" => hex_answer(alloc, text),
+        "hint" => hint_answer(alloc, text),
         _ => Err(Trouble::Row),
     }
 }

@@ -7,12 +7,13 @@ use serde_json::Value;
 use std::alloc::Global;
 use std::fs;
 
-const FILES: [&str; 5] = [
+const FILES: [&str; 6] = [
     "names.jsonl",
     "actions.jsonl",
     "states.jsonl",
     "features.jsonl",
     "conflicts.jsonl",
+    "hints.jsonl",
 ];
 
 /// The answer of a row, where it isn't the wanted one.

@@ -7,6 +7,7 @@ mod answers;
 mod conflicts;
 mod features;
 mod files;
+mod hints;
 mod names;
 mod row;
 mod states;
