@@ -21,11 +21,7 @@ fn table(rt: &HostRuntime, folder: &str) -> Result<DirStore<HostRuntime>, Troubl
 }
 
 /// Reads the checkpoint's actions so many times, and counts them.
-pub(crate) fn read_checkpoints(
-    rt: &HostRuntime,
-    folder: &str,
-    times: u32,
-) -> Result<u64, Trouble> {
+pub(crate) fn read_checkpoints(rt: &HostRuntime, folder: &str, times: u32) -> Result<u64, Trouble> {
     let mut store = table(rt, folder)?;
     let limit = Limits::usual().object;
     let mut total = 0u64;
